@@ -1,0 +1,123 @@
+-- The laws of the block value: the search for the exponent, and the cases of make, read and write. Assumes nothing.
+use mathlib.Core.Path.{_≡_, refl, sym, ap, _∙_}
+use mathlib.Core.Bool.{Bool, true, false, cond}
+use mathlib.Core.List.{List, [], _∷_}
+use mathlib.Core.Logic.{⊎-elim}
+use Prim.Native.Nat.{ℕ, zero, suc, _+_, _-_, _*_, _/_, _%_, _^_, _≤_, _<_}
+use native.Mathlib.Nat.{mul-comm, eq-or-lt-of-le, lt-of-not-le, lt-of-lt-of-le, le-of-suc-le-suc}
+use native.Mathlib.Omega.{arith}
+use lib.Dec.{leb, ltb, eqb, lit<}
+use lib.Pow.{pow-add, pow-mono, pow-lt, shl-exact}
+use lib.ListN.{length, getD}
+use borrow.Author.Tests.{le-leb, lt-leb, lt-ltb, le-ltb, eq-eqb, ne-eqb}
+use Rattle.block_value.specs.Value.{largestPower, exponentOf, made, sizeOf, unpacked, readOf, shortest}
+use Rattle.block_value.specs.declared.Made.the-variants as made-variants
+use Rattle.block_value.specs.declared.Reading.the-variants.{Value, Unreadable}
+
+-- ---- the largest power of two
+
+-- k is the exponent of the largest power of two not above the size
+pub largest-is : (most k size : ℕ) → k ≤ most → 2 ^ k ≤ size → size < 2 ^ (k + 1) → largestPower most size ≡ k
+unfolding largestPower
+largest-is zero k size h a b = omega arith
+largest-is (suc most) k size h a b =
+    ⊎-elim
+    (λ (e : k ≡ suc most). rw (le-leb (2 ^ suc most) size (rw e at a)) (sym e))
+    (λ (l : k < suc most).
+    let below : size < 2 ^ suc most = lt-of-lt-of-le b (pow-mono (omega arith)) in
+    rw (lt-leb (2 ^ suc most) size below) (largest-is most k size (le-of-suc-le-suc l) a b))
+    (eq-or-lt-of-le h)
+
+-- a power of two below 2 ^ 64 has an exponent of at most 63
+pub exponent-most : (k size : ℕ) → 2 ^ k ≤ size → size < 2 ^ 64 → k ≤ 63
+exponent-most k size a b =
+    let l : k < 64 = lt-of-not-le (λ (h : 64 ≤ k). let p : 2 ^ 64 ≤ 2 ^ k = pow-mono {i = 64} h in omega arith) in
+    omega arith
+
+-- ---- size
+
+-- what the code's shift comes to
+pub size-shifted : (e : ℕ) → (16 * 2 ^ (e % 8)) % 2 ^ 64 ≡ sizeOf e
+unfolding sizeOf
+size-shifted e = shl-exact {a = 16} 5 (e % 8) 64 (lit< tt) (omega arith) ∙ mul-comm 16 (2 ^ (e % 8)) ∙ sym (pow-add 2 (e % 8) 4)
+
+pub size-is : (e : ℕ) → e ≤ 7 → sizeOf e ≡ 2 ^ (e + 4)
+unfolding sizeOf
+size-is e h = ap (λ (n : ℕ). 2 ^ (n + 4)) (omega arith)
+
+pub size-least : (e : ℕ) → 16 ≤ sizeOf e
+unfolding sizeOf
+size-least e = pow-mono {i = 4} (omega arith)
+
+pub size-most : (e : ℕ) → sizeOf e ≤ 2048
+unfolding sizeOf
+size-most e = pow-mono {j = 11} (omega arith)
+
+-- the exponent of a size is the one it was made of
+pub exponent-size : (e : ℕ) → e ≤ 7 → exponentOf (sizeOf e) ≡ e
+exponent-size e h =
+    let s = size-is e h in
+    let next : 2 ^ (e + 4) < 2 ^ (e + 4 + 1) = pow-lt (omega arith) in
+    let k : largestPower 63 (sizeOf e) ≡ e + 4 = largest-is 63 (e + 4) (sizeOf e) (omega arith) (omega arith) (omega arith) in
+    omega arith
+
+-- ---- make, by its cases
+
+module _ (num : ℕ) (more : Bool) (size : ℕ) where
+  pub made-zero : size ≡ 0 → made num more size ≡ made-variants.Refused
+  unfolding made
+  made-zero h = rw (eq-eqb size 0 h)
+
+  pub made-large : (size ≡ 0 → ⊥) → 7 < exponentOf size → made num more size ≡ made-variants.Refused
+  unfolding made
+  made-large z h = rw (ne-eqb size 0 z, lt-ltb 7 (exponentOf size) h)
+
+  pub made-far : (size ≡ 0 → ⊥) → exponentOf size ≤ 7 → 65535 < num → made num more size ≡ made-variants.Refused
+  unfolding made
+  made-far z h n = rw (ne-eqb size 0 z, le-ltb 7 (exponentOf size) h, lt-ltb 65535 num n)
+
+  pub made-well : (size ≡ 0 → ⊥) → (e : ℕ) → e ≡ exponentOf size → e ≤ 7 → num ≤ 65535
+      → made num more size ≡ made-variants.Value (record { num = num; more = more; «size_exponent» = e })
+  unfolding made
+  made-well z e q h n = rw (q, ne-eqb size 0 z, le-ltb 7 (exponentOf size) (rw q at h), le-ltb 65535 num n)
+
+-- ---- read, by the option's length
+
+pub read-0 : (l : List ℕ) → length l ≡ 0 → readOf l ≡ Value (unpacked 0)
+unfolding readOf
+read-0 [] h = refl
+read-0 (x ∷ l) h = absurd (omega arith)
+
+pub read-1 : (l : List ℕ) → length l ≡ 1 → readOf l ≡ Value (unpacked (getD l 0 0))
+unfolding readOf
+read-1 [] h = absurd (omega arith)
+read-1 (x ∷ []) h = refl
+read-1 (x ∷ y ∷ l) h = absurd (omega arith)
+
+pub read-2 : (l : List ℕ) → length l ≡ 2 → readOf l ≡ Value (unpacked (getD l 0 0 * 256 + getD l 1 0))
+unfolding readOf
+read-2 [] h = absurd (omega arith)
+read-2 (x ∷ []) h = absurd (omega arith)
+read-2 (x ∷ y ∷ []) h = refl
+read-2 (x ∷ y ∷ z ∷ l) h = absurd (omega arith)
+
+pub read-more : (l : List ℕ) → 2 < length l → readOf l ≡ Unreadable
+unfolding readOf
+read-more [] h = absurd (omega arith)
+read-more (x ∷ []) h = absurd (omega arith)
+read-more (x ∷ y ∷ []) h = absurd (omega arith)
+read-more (x ∷ y ∷ z ∷ l) h = refl
+
+-- ---- write, by the number's size
+
+pub short-0 : (v : ℕ) → v ≡ 0 → shortest v ≡ []
+unfolding shortest
+short-0 v h = rw (eq-eqb v 0 h)
+
+pub short-1 : (v : ℕ) → (v ≡ 0 → ⊥) → v < 256 → shortest v ≡ v ∷ []
+unfolding shortest
+short-1 v z h = rw (ne-eqb v 0 z, lt-ltb v 256 h)
+
+pub short-2 : (v : ℕ) → (v ≡ 0 → ⊥) → 256 ≤ v → shortest v ≡ v / 256 ∷ v % 256 ∷ []
+unfolding shortest
+short-2 v z h = rw (ne-eqb v 0 z, le-ltb v 256 h)

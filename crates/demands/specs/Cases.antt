@@ -1,0 +1,79 @@
+-- Document 01, "Examples on each side", as one table over the definitions: each row says what is computed and what the document says.
+use Prim.Native.Nat.{ℕ}
+use mathlib.Core.Bool.{Bool, true, false}
+use mathlib.Core.Path.{_≡_}
+use mathlib.Core.List.{List, [], _∷_, _++_}
+use lib.ListN.{length, replicate}
+use Rattle.block_value.specs.Value.{made, readOf}
+use Rattle.block_value.specs.declared.BlockValue.{BlockValue}
+use Rattle.block_value.specs.declared.Made.{Made}
+use Rattle.block_value.specs.declared.Made.the-variants as made
+use Rattle.block_value.specs.declared.Reading.{Reading}
+use Rattle.block_value.specs.declared.Reading.the-variants as read
+use Rattle.negotiation.specs.Negotiation.{negotiated, within}
+use Rattle.negotiation.specs.Chunk.{chunkOf}
+use Rattle.negotiation.specs.declared.MaybeBlock.the-variants.{Absent, Given}
+use Rattle.negotiation.specs.declared.Negotiated.{Negotiated}
+use Rattle.negotiation.specs.declared.Negotiated.the-variants as reply
+use Rattle.negotiation.specs.declared.Chunk.{Chunk}
+use Rattle.negotiation.specs.declared.Chunk.the-variants as chunk
+use Rattle.pieces.specs.Splice.{spliceOf, spliced}
+use Rattle.pieces.specs.declared.Splice.{Splice}
+use Rattle.pieces.specs.declared.Splice.the-variants as splice
+
+abbrev pub block : ℕ → Bool → ℕ → BlockValue
+block num more exponent = record { num = num; more = more; «size_exponent» = exponent }
+
+pub data Row : Type 0 where
+  makes : Made → Made → Row
+  reads : Reading → Reading → Row
+  negotiates : Negotiated → Negotiated → Row
+  splices : Splice → Splice → Row
+  chunks : Chunk → Chunk → Row
+  lists : List ℕ → List ℕ → Row
+
+abbrev pub Says : Row → Type 0
+Says (makes a b) = a ≡ b
+Says (reads a b) = a ≡ b
+Says (negotiates a b) = a ≡ b
+Says (splices a b) = a ≡ b
+Says (chunks a b) = a ≡ b
+Says (lists a b) = a ≡ b
+
+abbrev pub AllSay : List Row → Type 0
+AllSay [] = Unit {0}
+AllSay (r ∷ rest) = Says r × AllSay rest
+
+abbrev pub cases : List Row
+cases =
+    -- 1. Make size 15: exponent 0. Size 32: 1. Size 0: refused.
+    makes (made 0 false 15) (made.Value (block 0 false 0))
+    ∷ makes (made 0 false 32) (made.Value (block 0 false 1))
+    ∷ makes (made 0 false 0) made.Refused
+    -- 2. Size 4095: exponent 7. Size 4096: refused.
+    ∷ makes (made 0 false 4095) (made.Value (block 0 false 7))
+    ∷ makes (made 0 false 4096) made.Refused
+    -- 3. Num 65,535: made. 65,536: refused.
+    ∷ makes (made 65535 false 16) (made.Value (block 65535 false 0))
+    ∷ makes (made 65536 false 16) made.Refused
+    -- 4. Byte 0x08: num 0, more, size 16. Empty: num 0, not more, size 16.
+    ∷ reads (readOf (0x08 ∷ [])) (read.Value (block 0 true 0))
+    ∷ reads (readOf []) (read.Value (block 0 false 0))
+    -- 5. T 1152, bare 116, no block: p 1023 none; p 1024 gives 0, more, 1024.
+    ∷ negotiates (negotiated Absent 116 1023 1152) reply.NoBlock
+    ∷ negotiates (negotiated Absent 116 1024 1152) (reply.Block (block 0 true 6))
+    -- 6. T 1152: bare 1140 refusal 5; bare 1141 refusal 4.
+    ∷ negotiates (negotiated Absent 1140 0 1152) (reply.Refused 5)
+    ∷ negotiates (negotiated Absent 1141 0 1152) (reply.Refused 4)
+    -- 7. m = 1000, num 2, size 1024: num 2, size 512.
+    ∷ negotiates (within (Given (block 2 false 6)) 0 1000) (reply.Block (block 2 false 5))
+    -- 8. Nothing assembled, size 1024: num 15 accepted (U at least 16,384); num 16 refusal 6.
+    ∷ splices (spliceOf 16384 0 15360 1024 1024) (splice.Body 16384)
+    ∷ splices (spliceOf 65536 0 16384 1024 1024) (splice.Refused 6)
+    -- 9. L 48, num 1, size 16, p 4: new length 36.
+    ∷ splices (spliceOf 64 48 16 16 4) (splice.Body 36)
+    ∷ lists (spliced (replicate 48 7) 16 16 (replicate 4 9)) (replicate 16 7 ++ replicate 4 9 ++ replicate 16 7)
+    -- 10. n 32, size 16: num 1 served, no more; num 2 refusal 8.
+    ∷ chunks (chunkOf (block 1 false 0) 32) (chunk.Bytes (block 1 false 0) 16 32)
+    ∷ chunks (chunkOf (block 2 false 0) 32) (chunk.Refused 8)
+    ∷ []

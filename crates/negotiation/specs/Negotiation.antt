@@ -1,0 +1,46 @@
+-- Document 01, "Negotiation", and "unreadable counts as absent".
+use Prim.Native.Nat.{ℕ, _+_, _-_, _*_, _/_, min}
+use mathlib.Core.Bool.{Bool, true, false, cond}
+use mathlib.Core.List.{List}
+use mathlib.Core.Option.{Option, none, some}
+use lib.Dec.{ltb, eqb}
+use Rattle.block_value.specs.Value.{made, sizeOf, readOf}
+use Rattle.block_value.specs.declared.Made.{Made}
+use Rattle.block_value.specs.declared.Made.the-variants as made-variants
+use Rattle.block_value.specs.declared.Reading.{Reading}
+use Rattle.block_value.specs.declared.Reading.the-variants.{Value, Unreadable}
+use Rattle.negotiation.specs.declared.MaybeBlock.{MaybeBlock}
+use Rattle.negotiation.specs.declared.MaybeBlock.the-variants.{Absent, Given}
+use Rattle.negotiation.specs.declared.Negotiated.{Negotiated}
+use Rattle.negotiation.specs.declared.Negotiated.the-variants.{NoBlock, Block, Refused}
+
+-- An option as the calls are handed it: given or not, and its bytes, which count only if it is given.
+abbrev pub optionOf : Bool → List ℕ → Option (List ℕ)
+optionOf given bytes = cond given (some bytes) none
+
+-- "Unreadable counts as absent."
+abbrev pub counted : Reading → MaybeBlock
+counted (Value b) = Given b
+counted Unreadable = Absent
+
+unfoldable pub requestBlock : Option (List ℕ) → MaybeBlock
+requestBlock none = Absent
+requestBlock (some bytes) = counted (readOf bytes)
+
+-- "A make that is refused is refusal 5."
+abbrev pub replyOf : Made → Negotiated
+replyOf (made-variants.Value b) = Block b
+replyOf made-variants.Refused = Refused 5
+
+-- "If g = 0, refusal 5. Else make(floor(ks/g), ks + g < p, g)", at offset = ks: g is used unrounded.
+unfoldable pub replyAt : ℕ → ℕ → ℕ → Negotiated
+replyAt offset g p = cond (eqb g 0) (Refused 5) (replyOf (made (offset / g) (ltb (offset + g) p) g))
+
+-- "None: p < m gives no block; else make(0, more, m). Given num k, size s: g = min(s, m)."
+unfoldable pub within : MaybeBlock → ℕ → ℕ → Negotiated
+within Absent p m = cond (ltb p m) NoBlock (replyOf (made 0 true m))
+within (Given b) p m = replyAt (b .num * sizeOf (b .«size_exponent»)) (min (sizeOf (b .«size_exponent»)) m) p
+
+-- "If bare + 12 > T: refusal 4. Let m = T - bare - 12."
+unfoldable pub negotiated : MaybeBlock → ℕ → ℕ → ℕ → Negotiated
+negotiated b bare p t = cond (ltb t (bare + 12)) (Refused 4) (within b p (t - bare - 12))

@@ -1,0 +1,131 @@
+// The size negotiation, and the bounds of a chunk.
+use block_value::BlockValue;
+use block_value::Made;
+use block_value::Reading;
+ghost use mathlib.Core.Path.{_≡_};
+ghost use Prim.Native.Nat.{_*_, _^_, _<_, _≤_, min};
+ghost use Rattle.block_value.specs.Value.{sizeOf};
+ghost use Rattle.negotiation.specs.Negotiation.{optionOf, requestBlock, replyOf, replyAt, negotiated};
+ghost use Rattle.negotiation.specs.Chunk.{chunkOf};
+
+// The most that a Block1 and a Block2 option add to a message.
+const BLOCK_OPTIONS_MAX_LENGTH: usize = 12;
+
+pub enum MaybeBlock {
+    Absent,
+    Given(BlockValue),
+}
+
+// What the negotiation comes to.
+pub enum Negotiated {
+    NoBlock,
+    Block(BlockValue),
+    Refused(u8),
+}
+
+// The bytes from..to of a payload, with the block value that they are sent under.
+pub enum Chunk {
+    Bytes(BlockValue, usize, usize),
+    Refused(u8),
+}
+
+// The block value of an option, where the message has one. One that cannot be read counts as absent.
+pub fn request_block(given: bool, option: &[u8]) -> MaybeBlock
+    ensures { λ r. ⌜ r ≡ requestBlock (optionOf given (now (option .entry))) ⌝ }
+{
+    if !given {
+        return MaybeBlock::Absent;
+    }
+    let Reading::Value(block) = block_value::read(option) else {
+        return MaybeBlock::Absent;
+    };
+    MaybeBlock::Given(block)
+}
+
+fn reply_of(made: Made) -> Negotiated
+    ensures { λ r. ⌜ r ≡ replyOf made ⌝ }
+{
+    match made {
+        Made::Value(block) => Negotiated::Block(block),
+        Made::Refused => Negotiated::Refused(5),
+    }
+}
+
+// The block of at most `size` bytes that holds the byte at `offset`.
+fn reply_at(offset: usize, size: usize, total_payload_size: usize) -> Negotiated
+    requires { ⌜ (offset < 2 ^ 43) × (size ≤ 2048) ⌝ }
+    ensures { λ r. ⌜ r ≡ replyAt offset size «total_payload_size» ⌝ }
+{
+    if size == 0 {
+        return Negotiated::Refused(5);
+    }
+    let more = offset + size < total_payload_size;
+    reply_of(block_value::make(offset / size, more, size))
+}
+
+// Where the block starts in the payload.
+fn start_of(num: u32, size: usize) -> usize
+    requires { ⌜ size ≤ 2048 ⌝ }
+    ensures { λ r. ⌜ (r ≡ num * size) × (r < 2 ^ 43) ⌝ }
+{
+    (num as usize) * size
+}
+
+fn reply_to(block: BlockValue, total_payload_size: usize, max_block_size: usize) -> Negotiated
+    ensures { λ r. ⌜ r ≡ replyAt (block .num * sizeOf (block .«size_exponent»)) (min (sizeOf (block .«size_exponent»)) «max_block_size») «total_payload_size» ⌝ }
+{
+    let size = block_value::size(block);
+    let offset = start_of(block.num, size);
+    if size < max_block_size {
+        return reply_at(offset, size, total_payload_size);
+    }
+    reply_at(offset, max_block_size, total_payload_size)
+}
+
+// The block value to answer with, if there is to be one, for a message of `bare` bytes besides its payload.
+pub fn negotiate_block_size_if_necessary(
+    request_block: MaybeBlock,
+    bare: usize,
+    total_payload_size: usize,
+    max_total_message_size: usize,
+) -> Negotiated
+    ensures { λ r. ⌜ r ≡ negotiated «request_block» bare «total_payload_size» «max_total_message_size» ⌝ }
+{
+    if max_total_message_size < BLOCK_OPTIONS_MAX_LENGTH {
+        return Negotiated::Refused(4);
+    }
+    let room = max_total_message_size - BLOCK_OPTIONS_MAX_LENGTH;
+    if room < bare {
+        return Negotiated::Refused(4);
+    }
+    let max_block_size = room - bare;
+    match request_block {
+        MaybeBlock::Absent => {
+            if total_payload_size < max_block_size {
+                return Negotiated::NoBlock;
+            }
+            reply_of(block_value::make(0, true, max_block_size))
+        }
+        MaybeBlock::Given(block) => reply_to(block, total_payload_size, max_block_size),
+    }
+}
+
+// The chunk of a payload of `len` bytes that the block value asks for.
+pub fn chunk_of(block: BlockValue, len: usize) -> Chunk
+    ensures { λ r. ⌜ r ≡ chunkOf block len ⌝ }
+{
+    let size = block_value::size(block);
+    let from = start_of(block.num, size);
+    if len <= from {
+        return Chunk::Refused(8);
+    }
+    let asked = BlockValue {
+        num: block.num,
+        more: from + size < len,
+        size_exponent: block.size_exponent,
+    };
+    if len - from < size {
+        return Chunk::Bytes(asked, from, len);
+    }
+    Chunk::Bytes(asked, from, from + size)
+}
