@@ -4,7 +4,7 @@ use mathlib.Core.Bool.{Bool, true, false, cond}
 use mathlib.Core.List.{List, [], _∷_}
 use mathlib.Core.Logic.{⊎-elim}
 use Prim.Native.Nat.{ℕ, zero, suc, _+_, _-_, _*_, _/_, _%_, _^_, _≤_, _<_}
-use native.Mathlib.Nat.{mul-comm, eq-or-lt-of-le, lt-of-not-le, lt-of-lt-of-le, le-of-suc-le-suc}
+use native.Mathlib.Nat.{mul-comm, mul-le-mul, eq-or-lt-of-le, lt-of-not-le, lt-of-lt-of-le, le-of-suc-le-suc}
 use native.Mathlib.Omega.{arith}
 use lib.Dec.{leb, ltb, eqb, lit<}
 use lib.Pow.{pow-add, pow-mono, pow-lt, shl-exact}
@@ -52,6 +52,10 @@ size-least e = pow-mono {i = 4} (omega arith)
 pub size-most : (e : ℕ) → sizeOf e ≤ 2048
 unfolding sizeOf
 size-most e = pow-mono {j = 11} (omega arith)
+
+-- a num of 32 bits times a size is below 2 ^ 43
+pub start-below : (num size : ℕ) → num < 2 ^ 32 → size ≤ 2048 → num * size < 2 ^ 43
+start-below num size h k = let p : num * size ≤ 4294967295 * 2048 = mul-le-mul {n₂ = 4294967295} (omega arith) k in omega arith
 
 -- the exponent of a size is the one it was made of
 pub exponent-size : (e : ℕ) → e ≤ 7 → exponentOf (sizeOf e) ≡ e

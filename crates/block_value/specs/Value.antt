@@ -32,6 +32,13 @@ made num more size =
 unfoldable pub sizeOf : ℕ → ℕ
 sizeOf exponent = 2 ^ (exponent % 8 + 4)
 
+-- Of a block value: its size s, and where it starts, ks for its num k.
+abbrev pub blockSize : BlockValue → ℕ
+blockSize b = sizeOf (b .«size_exponent»)
+
+abbrev pub blockStart : BlockValue → ℕ
+blockStart b = b .num * blockSize b
+
 -- "Low 3 bits exponent, next bit more, the rest num."
 abbrev pub unpacked : ℕ → BlockValue
 unpacked scalar = record { num = scalar / 16; more = eqb (scalar / 8 % 2) 1; «size_exponent» = scalar % 8 }

@@ -1,7 +1,7 @@
 // The block value of a Block1 or Block2 option: make, size, read, write.
 ghost use mathlib.Core.Path.{_≡_};
-ghost use Prim.Native.Nat.{_<_};
-ghost use Rattle.block_value.specs.Value.{largestPower, made, sizeOf, unpacked, readOf, packed, written, inTwo};
+ghost use Prim.Native.Nat.{_*_, _^_, _<_, _≤_};
+ghost use Rattle.block_value.specs.Value.{largestPower, made, blockSize, blockStart, unpacked, readOf, packed, written, inTwo};
 
 pub struct BlockValue {
     pub num: u32,
@@ -70,10 +70,24 @@ pub fn make(num: usize, more: bool, size: usize) -> Made
 }
 
 pub fn size(block: BlockValue) -> usize
-    ensures { λ r. ⌜ r ≡ sizeOf (block .«size_exponent») ⌝ }
+    ensures { λ r. ⌜ r ≡ blockSize block ⌝ }
 {
     let exponent = block.size_exponent;
     16usize << (exponent % 8)
+}
+
+fn times(num: u32, size: usize) -> usize
+    requires { ⌜ size ≤ 2048 ⌝ }
+    ensures { λ r. ⌜ (r ≡ num * size) × (r < 2 ^ 43) ⌝ }
+{
+    (num as usize) * size
+}
+
+// Where the block starts in what it is a block of.
+pub fn start(block: BlockValue) -> usize
+    ensures { λ r. ⌜ (r ≡ blockStart block) × (r < 2 ^ 43) ⌝ }
+{
+    times(block.num, size(block))
 }
 
 fn wide(x: u8) -> u32

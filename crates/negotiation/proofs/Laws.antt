@@ -3,11 +3,10 @@ use mathlib.Core.Path.{_≡_, refl, sym, ap, _∙_}
 use mathlib.Core.Bool.{Bool, true, false, cond}
 use mathlib.Core.List.{List}
 use Prim.Native.Nat.{ℕ, _+_, _-_, _*_, _/_, _^_, min, _≤_, _<_}
-use native.Mathlib.Nat.{mul-le-mul}
 use native.Mathlib.Omega.{arith}
 use lib.Dec.{ltb, leb, eqb}
 use borrow.Author.Tests.{lt-ltb, le-ltb, le-leb, lt-leb, eq-eqb, ne-eqb}
-use Rattle.block_value.specs.Value.{made, sizeOf, readOf}
+use Rattle.block_value.specs.Value.{made, blockSize, blockStart, readOf}
 use Rattle.block_value.specs.declared.BlockValue.{BlockValue}
 use Rattle.block_value.specs.declared.Reading.{Reading}
 use Rattle.negotiation.specs.declared.MaybeBlock.{MaybeBlock}
@@ -37,9 +36,6 @@ pub reply-made : (offset g p : ℕ) → (g ≡ 0 → ⊥) → replyAt offset g p
 unfolding replyAt
 reply-made offset g p h = rw (ne-eqb g 0 h)
 
-pub start-below : (num size : ℕ) → num < 2 ^ 32 → size ≤ 2048 → num * size < 2 ^ 43
-start-below num size h k = let p : num * size ≤ 4294967295 * 2048 = mul-le-mul {n₂ = 4294967295} (omega arith) k in omega arith
-
 module _ (b : MaybeBlock) (bare p t : ℕ) where
   pub no-room : t < bare + 12 → negotiated b bare p t ≡ Refused 4
   unfolding negotiated
@@ -58,20 +54,20 @@ module _ (b : MaybeBlock) (p m : ℕ) where
   unfolding within
   absent-large e h = rw (e, le-ltb p m h)
 
-  pub given-at : (x : BlockValue) → b ≡ Given x → within b p m ≡ replyAt (x .num * sizeOf (x .«size_exponent»)) (min (sizeOf (x .«size_exponent»)) m) p
+  pub given-at : (x : BlockValue) → b ≡ Given x → within b p m ≡ replyAt (blockStart x) (min (blockSize x) m) p
   unfolding within
   given-at x e = rw e
 
 -- ---- the chunk, which starts at `from` in blocks of `size` bytes
 
-module _ (b : BlockValue) (n size from : ℕ) (is : size ≡ sizeOf (b .«size_exponent»)) (start : from ≡ b .num * size) where
+module _ (b : BlockValue) (n size from : ℕ) (is : size ≡ blockSize b) (start : from ≡ blockStart b) where
   pub chunk-past : n ≤ from → chunkOf b n ≡ chunk-variants.Refused 8
   unfolding chunkOf
-  chunk-past h = rw (← is, ← start, le-leb n from h)
+  chunk-past h = rw (← start, le-leb n from h)
 
   pub chunk-bytes : (to : ℕ) → from < n → to ≡ min (from + size) n
       → chunkOf b n ≡ chunk-variants.Bytes (record { num = b .num; more = ltb (from + size) n; «size_exponent» = b .«size_exponent» }) from to
   unfolding chunkOf
   chunk-bytes to h e =
-      let next : (b .num + 1) * size ≡ from + size = omega arith in
-      rw (← is, ← start, lt-leb n from h, next, e)
+      let next : (b .num + 1) * blockSize b ≡ from + size = omega arith in
+      rw (next, ← start, lt-leb n from h, e, is)

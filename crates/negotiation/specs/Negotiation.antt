@@ -1,10 +1,10 @@
 -- Document 01, "Negotiation", and "unreadable counts as absent".
-use Prim.Native.Nat.{ℕ, _+_, _-_, _*_, _/_, min}
+use Prim.Native.Nat.{ℕ, _+_, _-_, _/_, min}
 use mathlib.Core.Bool.{Bool, true, false, cond}
 use mathlib.Core.List.{List}
 use mathlib.Core.Option.{Option, none, some}
 use lib.Dec.{ltb, eqb}
-use Rattle.block_value.specs.Value.{made, sizeOf, readOf}
+use Rattle.block_value.specs.Value.{made, blockSize, blockStart, readOf}
 use Rattle.block_value.specs.declared.Made.{Made}
 use Rattle.block_value.specs.declared.Made.the-variants as made-variants
 use Rattle.block_value.specs.declared.Reading.{Reading}
@@ -39,7 +39,7 @@ replyAt offset g p = cond (eqb g 0) (Refused 5) (replyOf (made (offset / g) (ltb
 -- "None: p < m gives no block; else make(0, more, m). Given num k, size s: g = min(s, m)."
 unfoldable pub within : MaybeBlock → ℕ → ℕ → Negotiated
 within Absent p m = cond (ltb p m) NoBlock (replyOf (made 0 true m))
-within (Given b) p m = replyAt (b .num * sizeOf (b .«size_exponent»)) (min (sizeOf (b .«size_exponent»)) m) p
+within (Given b) p m = replyAt (blockStart b) (min (blockSize b) m) p
 
 -- "If bare + 12 > T: refusal 4. Let m = T - bare - 12."
 unfoldable pub negotiated : MaybeBlock → ℕ → ℕ → ℕ → Negotiated

@@ -3,8 +3,8 @@ use block_value::BlockValue;
 use block_value::Made;
 use block_value::Reading;
 ghost use mathlib.Core.Path.{_≡_};
-ghost use Prim.Native.Nat.{_*_, _^_, _<_, _≤_, min};
-ghost use Rattle.block_value.specs.Value.{sizeOf};
+ghost use Prim.Native.Nat.{_^_, _<_, _≤_, min};
+ghost use Rattle.block_value.specs.Value.{blockSize, blockStart};
 ghost use Rattle.negotiation.specs.Negotiation.{optionOf, requestBlock, replyOf, replyAt, negotiated};
 ghost use Rattle.negotiation.specs.Chunk.{chunkOf};
 
@@ -63,19 +63,11 @@ fn reply_at(offset: usize, size: usize, total_payload_size: usize) -> Negotiated
     reply_of(block_value::make(offset / size, more, size))
 }
 
-// Where the block starts in the payload.
-fn start_of(num: u32, size: usize) -> usize
-    requires { ⌜ size ≤ 2048 ⌝ }
-    ensures { λ r. ⌜ (r ≡ num * size) × (r < 2 ^ 43) ⌝ }
-{
-    (num as usize) * size
-}
-
 fn reply_to(block: BlockValue, total_payload_size: usize, max_block_size: usize) -> Negotiated
-    ensures { λ r. ⌜ r ≡ replyAt (block .num * sizeOf (block .«size_exponent»)) (min (sizeOf (block .«size_exponent»)) «max_block_size») «total_payload_size» ⌝ }
+    ensures { λ r. ⌜ r ≡ replyAt (blockStart block) (min (blockSize block) «max_block_size») «total_payload_size» ⌝ }
 {
     let size = block_value::size(block);
-    let offset = start_of(block.num, size);
+    let offset = block_value::start(block);
     if size < max_block_size {
         return reply_at(offset, size, total_payload_size);
     }
@@ -115,7 +107,7 @@ pub fn chunk_of(block: BlockValue, len: usize) -> Chunk
     ensures { λ r. ⌜ r ≡ chunkOf block len ⌝ }
 {
     let size = block_value::size(block);
-    let from = start_of(block.num, size);
+    let from = block_value::start(block);
     if len <= from {
         return Chunk::Refused(8);
     }

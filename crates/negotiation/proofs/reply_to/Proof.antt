@@ -13,35 +13,35 @@ small c = rw (c .size .ensures) (size-most (c .before .args .block .«size_expon
 size-requires : tie.Need-size-requires
 size-requires c κs = search needs
 
-start-of-requires : tie.Need-start-of-requires
-start-of-requires c κs = small c
+start-requires : tie.Need-start-requires
+start-requires c κs = search needs
 
 reply-at-requires : tie.Need-reply-at-requires
-reply-at-requires c κs = (c .before .start-of .ensures .1, small (c .before .before))
+reply-at-requires c κs = (c .before .start .ensures .1, small (c .before .before))
 
 returns : tie.Need-returns
 returns c =
     let d = c .before .before .before in
     let a = d .before .args in
     let g : min (sizeOf (a .block .«size_exponent»)) (a .max-block-size) ≡ d .size .result = omega arith in
-    rw (g, ← (d .size .ensures), ← (c .before .before .start-of .ensures .0)) (c .reply-at .ensures)
+    rw (g, ← (c .before .before .start .ensures .0)) (c .reply-at .ensures)
 
 reply-at-requires-2 : tie.Need-reply-at-requires-2
-reply-at-requires-2 c κs = (c .before .start-of .ensures .1, omega (arith, small (c .before .before)))
+reply-at-requires-2 c κs = (c .before .start .ensures .1, omega (arith, small (c .before .before)))
 
 returns-2 : tie.Need-returns-2
 returns-2 c =
     let d = c .before .before .before in
     let a = d .before .args in
     let g : min (sizeOf (a .block .«size_exponent»)) (a .max-block-size) ≡ a .max-block-size = omega arith in
-    rw (g, ← (d .size .ensures), ← (c .before .before .start-of .ensures .0)) (c .reply-at2 .ensures)
+    rw (g, ← (c .before .before .start .ensures .0)) (c .reply-at2 .ensures)
 
 pub reply-to-spec : {M : Type 1} → statement M
 reply-to-spec =
     tie.close
     (tie.spec
     size-requires
-    start-of-requires
+    start-requires
     reply-at-requires
     returns
     reply-at-requires-2

@@ -1,0 +1,4 @@
+pub mod Message
+pub mod State
+pub mod Answers
+pub mod Step

@@ -1,0 +1,133 @@
+-- One call on the state of its key and on its piece (document 01, "A request call", "A response call", "Strict mode").
+-- A request works on the key's piece of the upload memory, a response on its piece of the response memory; neither changes the other.
+use Prim.Native.Nat.{ℕ, _+_}
+use mathlib.Core.Bool.{Bool, true, false, cond, not, _&&_, _||_}
+use mathlib.Core.List.{List, _++_}
+use lib.ListN.{length}
+use lib.Dec.{ltb, eqb}
+use Rattle.pieces.specs.Memory.{patch}
+use Rattle.pieces.specs.Splice.{spliceOf, pieceAfter}
+use Rattle.pieces.specs.declared.Splice.{Splice}
+use Rattle.pieces.specs.declared.Splice.the-variants as splice
+use Rattle.block_value.specs.Value.{blockSize, blockStart}
+use Rattle.block_value.specs.declared.BlockValue.{BlockValue}
+use Rattle.negotiation.specs.Negotiation.{requestBlock, negotiated}
+use Rattle.negotiation.specs.Chunk.{chunkOf}
+use Rattle.negotiation.specs.declared.MaybeBlock.{MaybeBlock}
+use Rattle.negotiation.specs.declared.MaybeBlock.the-variants.{Absent, Given}
+use Rattle.negotiation.specs.declared.Negotiated.{Negotiated}
+use Rattle.negotiation.specs.declared.Negotiated.the-variants as agreed
+use Rattle.negotiation.specs.declared.Chunk.{Chunk}
+use Rattle.negotiation.specs.declared.Chunk.the-variants as chunk
+use Rattle.block_state.specs.declared.Config.{Config}
+use Rattle.block_state.specs.declared.Assembled.{Assembled}
+use Rattle.block_state.specs.declared.BlockState.{BlockState}
+use Rattle.block_state.specs.declared.Part.{Part}
+use Rattle.block_state.specs.declared.Answer.{Answer}
+use Rattle.block_state.specs.declared.Answer.the-variants.{Continue, TooLarge, Handed, Pass, Served, Plain, Whole, First, Refused}
+use Rattle.block_state.specs.Message.{Request, Response}
+use Rattle.block_state.specs.State.{assembly, caching, keptWhile, recordedBlock, withAssembled, withCached, withRecorded}
+
+-- What a step leaves of the state and of its piece, and what it answers.
+pub record Left : Type 0 where
+  pub state : BlockState
+  pub piece : List ℕ
+  pub answer : Answer
+
+abbrev pub left : BlockState → List ℕ → Answer → Left
+left s piece a = record { state = s; piece = piece; answer = a }
+
+-- n bytes from index `at` on.
+abbrev pub bytesFrom : ℕ → ℕ → Part
+bytesFrom at n = record { from = at; to = at + n }
+
+-- ---- Strict mode
+
+-- "Exponent 7, or p > s, or more with p not s, is refusal 10."
+unfoldable pub badForm : BlockValue → ℕ → Bool
+badForm b p = eqb (b .«size_exponent») 7 || ltb (blockSize b) p || b .more && not (eqb p (blockSize b))
+
+-- "Any other num is refusal 9 unless a = L and the exponent equals the kept one."
+unfoldable pub notNext : Assembled → BlockValue → Bool
+notNext a b = not (eqb (b .num) 0) && not (eqb (blockStart b) (a .len) && eqb (b .«size_exponent») (a .exponent))
+
+-- The assembled length that a block meets: in strict mode "num 0 starts afresh, the old assembly counting as empty".
+unfoldable pub lengthMet : Bool → Assembled → BlockValue → ℕ
+lengthMet strict a b = cond (strict && eqb (b .num) 0) 0 (a .len)
+
+-- ---- A request call, on the upload piece. The key's response piece begins at `at` of the response memory, its upload piece at `home` of the upload memory.
+
+-- Step 4, with a response cached: "serve the chunk from the cache: Served (head, chunk, Block2 value, Block1 value if step 2 made one),
+-- and drop the cache if no more follows". Refusal 8 keeps the cache.
+unfoldable pub served : ℕ → BlockState → List ℕ → MaybeBlock → Chunk → Left
+served at s u block1 (chunk.Refused n) = left s u (Refused n)
+served at s u block1 (chunk.Bytes b from to) =
+    let head = s .cached .head in
+    left (withCached s (keptWhile (b .more) (s .cached))) u
+    (Served block1 b (bytesFrom at head) (record { from = at + head + from; to = at + head + to }))
+
+-- Step 4: "Record the Block2 value, or none. If it is given and a response is cached, serve." Step 5: "Otherwise Handed after step 2, or Pass."
+unfoldable pub onward : ℕ → BlockState → List ℕ → MaybeBlock → MaybeBlock → Answer → Left
+onward at s u Absent block1 otherwise = left (withRecorded s Absent) u otherwise
+onward at s u (Given b) block1 otherwise =
+    let recorded = withRecorded s (Given b) in
+    cond (s .cached .held) (served at recorded u block1 (chunkOf b (s .cached .payload))) (left recorded u otherwise)
+
+-- Step 2, once the splice has answered: "If more: Continue. .. Otherwise the body is complete, assembled length becomes 0, go on."
+unfoldable pub spliced : ℕ → ℕ → BlockState → List ℕ → Request → BlockValue → BlockValue → ℕ → Splice → Left
+spliced home at s u r b reply l (splice.Refused n) = left s u (Refused n)
+spliced home at s u r b reply l (splice.Body n) =
+    let u′ = pieceAfter u l (blockStart b) (blockSize b) (r .payload) in
+    cond (b .more)
+    (left (withAssembled s (assembly n (b .«size_exponent»))) u′ (Continue reply))
+    (onward at (withAssembled s (assembly 0 0)) u′ (requestBlock (r .block2)) (Given reply) (Handed reply (bytesFrom home n)))
+
+-- Strict mode's two checks, then step 2's splice.
+unfoldable pub block1Given : Config → ℕ → ℕ → BlockState → List ℕ → Request → BlockValue → BlockValue → Left
+block1Given c home at s u r b reply =
+    let p = length (r .payload) in
+    let l = lengthMet (c .strict) (s .assembled) b in
+    cond (c .strict && badForm b p) (left s u (Refused 10))
+    (cond (c .strict && notNext (s .assembled) b) (left s u (Refused 9))
+    (spliced home at s u r b reply l (spliceOf (c .upload) l (blockStart b) (blockSize b) p)))
+
+-- Step 1 has negotiated. Step 3: "Block1 absent and a block came out: TooLarge." (With Block1 given a block always comes out, or a refusal.)
+unfoldable pub onNegotiated : Config → ℕ → ℕ → BlockState → List ℕ → Request → MaybeBlock → Negotiated → Left
+onNegotiated c home at s u r b (agreed.Refused n) = left s u (Refused n)
+onNegotiated c home at s u r Absent agreed.NoBlock = onward at s u (requestBlock (r .block2)) Absent Pass
+onNegotiated c home at s u r Absent (agreed.Block reply) = left s u (TooLarge reply)
+onNegotiated c home at s u r (Given b) agreed.NoBlock = onward at s u (requestBlock (r .block2)) Absent Pass
+onNegotiated c home at s u r (Given b) (agreed.Block reply) = block1Given c home at s u r b reply
+
+-- Step 1: "Negotiate with Block1, always."
+unfoldable pub stepRequest : Config → ℕ → ℕ → BlockState → List ℕ → Request → Left
+stepRequest c home at s u r =
+    let block1 = requestBlock (r .block1) in
+    onNegotiated c home at s u r block1 (negotiated block1 (r .bare) (length (r .payload)) (c .limit))
+
+-- ---- A response call, on the response piece
+
+-- "If no more follows: Whole, nothing cached. .. Else head then payload are copied to the start of the piece, its other bytes staying
+-- (refusal 7 if their sum exceeds V): First, with the chunk."
+unfoldable pub chunked : Config → BlockState → List ℕ → Response → Chunk → Left
+chunked c s d r (chunk.Refused n) = left s d (Refused n)
+chunked c s d r (chunk.Bytes b from to) =
+    let h = length (r .head) in
+    let p = length (r .payload) in
+    let part : Part = record { from = from; to = to } in
+    cond (b .more)
+    (cond (ltb (c .response) (h + p)) (left s d (Refused 7))
+    (left (withCached s (caching h p)) (patch d 0 (r .head ++ r .payload)) (First b part)))
+    (left s d (Whole b part))
+
+-- "Negotiate with the recorded Block2 value; no block: Plain. Else take that chunk of the payload."
+unfoldable pub onReply : Config → BlockState → List ℕ → Response → Negotiated → Left
+onReply c s d r (agreed.Refused n) = left s d (Refused n)
+onReply c s d r agreed.NoBlock = left s d Plain
+onReply c s d r (agreed.Block b) = chunked c s d r (chunkOf b (length (r .payload)))
+
+-- "If the response has its own Block2 option: Plain."
+unfoldable pub stepResponse : Config → BlockState → List ℕ → Response → Left
+stepResponse c s d r =
+    cond (r .own) (left s d Plain)
+    (onReply c s d r (negotiated (recordedBlock (s .recorded)) (r .bare) (length (r .payload)) (c .limit)))

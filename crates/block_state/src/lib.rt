@@ -1,0 +1,81 @@
+// One key's state, and one call's step on it and on its piece of memory, by value.
+use block_value::BlockValue;
+use negotiation::Chunk;
+use negotiation::MaybeBlock;
+use negotiation::Negotiated;
+use pieces::Splice;
+
+// BlockHandlerConfig in the Rust, with the mode and the sizes of the pieces.
+pub struct Config {
+    pub strict: bool,
+    // T, max_total_message_size in the Rust.
+    pub limit: usize,
+    // Milliseconds, cache_expiry_duration in the Rust.
+    pub lifetime: u64,
+    // U and V, the lengths of a piece of the upload memory and of the response memory.
+    pub upload: usize,
+    pub response: usize,
+}
+
+// What is assembled of an upload, cached_request_payload in the Rust: its length, and the exponent of the last block taken.
+#[repr(C)]
+pub struct Assembled {
+    pub len: u32,
+    pub exponent: u8,
+}
+
+// The cached response, cached_response in the Rust: its head and payload stand at the start of the response piece.
+#[repr(C)]
+pub struct Cached {
+    pub held: bool,
+    pub head: u8,
+    pub payload: u32,
+}
+
+// The recorded Block2 value, last_request_block2 in the Rust.
+#[repr(C)]
+pub struct Recorded {
+    pub given: bool,
+    pub more: bool,
+    pub exponent: u8,
+    pub num: u32,
+}
+
+#[repr(C)]
+pub struct BlockState {
+    pub assembled: Assembled,
+    pub cached: Cached,
+    pub recorded: Recorded,
+}
+
+// The bytes from..to of the memory that the answer names.
+pub struct Part {
+    pub from: usize,
+    pub to: usize,
+}
+
+pub enum Answer {
+    // 2.31, with the Block1 value.
+    Continue(BlockValue),
+    // 4.13, with the Block1 value.
+    TooLarge(BlockValue),
+    // To the application: the Block1 value for its response, and the body, a part of the upload memory.
+    Handed(BlockValue, Part),
+    // To the application, with the message's own payload.
+    Pass,
+    // From the cache: a Block1 value if the call completed a body, the Block2 value, and the head and the chunk, parts of the response memory.
+    Served(MaybeBlock, BlockValue, Part, Part),
+    // The response goes out as it is.
+    Plain,
+    // The response goes out with this Block2 value and this part of its own payload; nothing is cached.
+    Whole(BlockValue, Part),
+    // The same, and the response is cached.
+    First(BlockValue, Part),
+    Refused(u8),
+}
+
+// A state with what was answered.
+pub struct Stepped {
+    pub state: BlockState,
+    pub answer: Answer,
+}
