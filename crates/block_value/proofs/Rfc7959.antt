@@ -6,13 +6,13 @@ use Prim.Native.Nat.{ℕ, suc, _+_, _-_, _*_, _/_, _%_, _^_, _≤_, _<_}
 use native.Mathlib.Nat.{pow-suc, mul-le-mul-right}
 use native.Mathlib.Omega.{arith}
 use lib.Dec.{ltb, eqb}
-use lib.ListN.{length}
+use lib.ListN.{length, take}
 use borrow.Author.Tests.{eqb-true, eqb-false, ltb-true, ltb-false, eq-eqb, ne-eqb}
-use Rattle.block_value.specs.Value.{unpacked, readOf, packed, shortest, written}
-use Rattle.block_value.specs.Rfc7959.{uint, Bytes, Holds, Fewest}
+use Rattle.block_value.specs.Value.{sizeOf, unpacked, readOf, packed, shortest, written, inTwo}
+use Rattle.block_value.specs.Rfc7959.{uint, Bytes, Holds, bytesIn, Fewest}
 use Rattle.block_value.specs.declared.BlockValue.{BlockValue}
 use Rattle.block_value.specs.declared.Reading.the-variants.{Value, Unreadable}
-use Rattle.block_value.proofs.Laws.{short-0, short-1, short-2}
+use Rattle.block_value.proofs.Laws.{size-is, short-0, short-1, short-2}
 
 -- ---- what bytes can spell
 
@@ -36,6 +36,13 @@ takes-one : (l : List ℕ) → 1 ≤ uint l → 1 ≤ length l
 unfolding uint
 takes-one [] v = absurd (omega arith)
 takes-one (a ∷ l) v = omega arith
+
+spelled-below : (l : List ℕ) → Bytes l → length l ≤ 2 → uint l < 65536
+unfolding uint
+spelled-below [] h few = omega arith
+spelled-below (a ∷ []) h few = omega (arith, uint-below (a ∷ []) h)
+spelled-below (a ∷ b ∷ []) h few = omega (arith, uint-below (a ∷ b ∷ []) h)
+spelled-below (a ∷ b ∷ c ∷ l) h few = absurd (omega arith)
 
 -- ---- read: every option of at most 2 bytes is read as the RFC reads it
 
@@ -61,12 +68,23 @@ pub read-as-the-rfc : (option : List ℕ) → Bytes option → length option ≤
     → (b : BlockValue) × (readOf option ≡ Value b) × Holds option (b .num) (b .more) (b .«size_exponent»)
 read-as-the-rfc option b h = (unpacked (uint option), read-value option h, unpacked-holds option b (omega arith))
 
+-- Its num is at most 4095.
+pub read-num : (option : List ℕ) (b : BlockValue) → Bytes option → length option ≤ 2 → readOf option ≡ Value b → b .num ≤ 4095
+read-num option b h few e =
+    let same : unpacked (uint option) ≡ b = cc (read-value option few) in
+    let below : uint option < 65536 = spelled-below option h few in
+    rw (← same) (omega arith)
+
 -- The RFC's account leaves no choice: an option holds one NUM, one M and one SZX.
 pub holds-one : (option : List ℕ) (n k : ℕ) (p q : Bool) (s t : ℕ) → Holds option n p s → Holds option k q t → (n ≡ k) × (p ≡ q) × (s ≡ t)
 holds-one option n k true true s t a b = (omega arith, refl, omega arith)
 holds-one option n k true false s t a b = absurd (omega arith)
 holds-one option n k false true s t a b = absurd (omega arith)
 holds-one option n k false false s t a b = (omega arith, refl, omega arith)
+
+-- SIZE: for SZX 0 to 6 it is the RFC's.
+pub size-as-the-rfc : (szx : ℕ) → szx ≤ 6 → sizeOf szx ≡ bytesIn szx
+size-as-the-rfc szx h = size-is szx (omega arith)
 
 -- ---- write
 
@@ -92,6 +110,12 @@ shortest-spells v small = go (eqb v 0) (ltb v 256) refl refl
         let f = ltb-false v 256 q in
         rw (short-2 v z f) (record { value = omega arith; bytes = (omega arith, (omega arith, tt)); few = omega arith; fewest = λ l h e. takes-two l h (omega arith) })
 
+in-two : (l : List ℕ) → length l ≤ 2 → take (inTwo l .len) (inTwo l .bytes) ≡ l
+in-two [] h = refl
+in-two (x ∷ []) h = refl
+in-two (x ∷ y ∷ []) h = refl
+in-two (x ∷ y ∷ z ∷ l) h = absurd (omega arith)
+
 module _ (b : BlockValue) (few : b .num ≤ 4095) (known : b .«size_exponent» ≤ 7) where
   packed-is : packed b ≡ b .num * 16 + cond (b .more) 8 0 + b .«size_exponent»
   packed-is = omega arith
@@ -107,6 +131,10 @@ module _ (b : BlockValue) (few : b .num ≤ 4095) (known : b .«size_exponent» 
   pub written-as-the-rfc : Holds (written b) (b .num) (b .more) (b .«size_exponent») × Fewest (written b)
   written-as-the-rfc =
       (record { bytes = spells .bytes; few = omega (arith, spells .few); scalar = spells .value ∙ packed-is; three-bits = omega arith }, spells .fewest)
+
+  -- The bytes that `write` returns are those, and only those.
+  pub returned : take (inTwo (written b) .len) (inTwo (written b) .bytes) ≡ written b
+  returned = in-two (written b) (spells .few)
 
   -- READ AFTER WRITE is the identity.
   pub read-after-write : readOf (written b) ≡ Value b

@@ -21,6 +21,10 @@ pub record Holds (option : List ℕ) (num : ℕ) (more : Bool) (szx : ℕ) : Typ
   pub scalar : uint option ≡ num * 16 + cond more 8 0 + szx
   pub three-bits : szx < 8
 
+-- "The size is 2^(SZX + 4), so 16 to 1024"; SZX 7 is reserved. The block starts at NUM times the size.
+abbrev pub bytesIn : ℕ → ℕ
+bytesIn szx = 2 ^ (szx + 4)
+
 -- No bytes that spell the same number are fewer: the form in which an unsigned integer is sent.
 unfoldable pub Fewest : List ℕ → Type 0
 Fewest option = (other : List ℕ) → Bytes other → uint other ≡ uint option → length option ≤ length other

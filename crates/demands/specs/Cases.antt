@@ -1,10 +1,10 @@
--- Document 01, "Examples on each side", as one table over the definitions: each row says what is computed and what the document says.
+-- Document 01, "Examples on each side", cases 1 to 10, as one table over the definitions: each row says what is computed and what the document says.
 use Prim.Native.Nat.{ℕ}
 use mathlib.Core.Bool.{Bool, true, false}
 use mathlib.Core.Path.{_≡_}
 use mathlib.Core.List.{List, [], _∷_, _++_}
 use lib.ListN.{length, replicate}
-use Rattle.block_value.specs.Value.{made, readOf}
+use Rattle.block_value.specs.Value.{made, sizeOf, blockSize, blockStart, readOf}
 use Rattle.block_value.specs.declared.BlockValue.{BlockValue}
 use Rattle.block_value.specs.declared.Made.{Made}
 use Rattle.block_value.specs.declared.Made.the-variants as made
@@ -31,6 +31,7 @@ pub data Row : Type 0 where
   splices : Splice → Splice → Row
   chunks : Chunk → Chunk → Row
   lists : List ℕ → List ℕ → Row
+  number : ℕ → ℕ → Row
 
 abbrev pub Says : Row → Type 0
 Says (makes a b) = a ≡ b
@@ -39,10 +40,15 @@ Says (negotiates a b) = a ≡ b
 Says (splices a b) = a ≡ b
 Says (chunks a b) = a ≡ b
 Says (lists a b) = a ≡ b
+Says (number a b) = a ≡ b
 
 abbrev pub AllSay : List Row → Type 0
 AllSay [] = Unit {0}
 AllSay (r ∷ rest) = Says r × AllSay rest
+
+-- The splice's answer to block b, where l bytes are assembled in a piece of u, for a payload of p.
+abbrev pub spliceOfBlock : ℕ → ℕ → BlockValue → ℕ → Splice
+spliceOfBlock u l b p = spliceOf u l (blockStart b) (blockSize b) p
 
 abbrev pub cases : List Row
 cases =
@@ -59,21 +65,26 @@ cases =
     -- 4. Byte 0x08: num 0, more, size 16. Empty: num 0, not more, size 16.
     ∷ reads (readOf (0x08 ∷ [])) (read.Value (block 0 true 0))
     ∷ reads (readOf []) (read.Value (block 0 false 0))
+    ∷ number (sizeOf 0) 16
     -- 5. T 1152, bare 116, no block: p 1023 none; p 1024 gives 0, more, 1024.
     ∷ negotiates (negotiated Absent 116 1023 1152) reply.NoBlock
     ∷ negotiates (negotiated Absent 116 1024 1152) (reply.Block (block 0 true 6))
+    ∷ number (sizeOf 6) 1024
     -- 6. T 1152: bare 1140 refusal 5; bare 1141 refusal 4.
     ∷ negotiates (negotiated Absent 1140 0 1152) (reply.Refused 5)
+    ∷ negotiates (negotiated (Given (block 0 false 0)) 1140 0 1152) (reply.Refused 5)
     ∷ negotiates (negotiated Absent 1141 0 1152) (reply.Refused 4)
+    ∷ negotiates (negotiated (Given (block 0 false 0)) 1141 0 1152) (reply.Refused 4)
     -- 7. m = 1000, num 2, size 1024: num 2, size 512.
     ∷ negotiates (within (Given (block 2 false 6)) 0 1000) (reply.Block (block 2 false 5))
+    ∷ number (sizeOf 5) 512
     -- 8. Nothing assembled, size 1024: num 15 accepted (U at least 16,384); num 16 refusal 6.
-    ∷ splices (spliceOf 16384 0 15360 1024 1024) (splice.Body 16384)
-    ∷ splices (spliceOf 65536 0 16384 1024 1024) (splice.Refused 6)
+    ∷ splices (spliceOfBlock 16384 0 (block 15 true 6) 1024) (splice.Body 16384)
+    ∷ splices (spliceOfBlock 65536 0 (block 16 true 6) 1024) (splice.Refused 6)
     -- 9. L 48, num 1, size 16, p 4: new length 36.
-    ∷ splices (spliceOf 64 48 16 16 4) (splice.Body 36)
-    ∷ lists (spliced (replicate 48 7) 16 16 (replicate 4 9)) (replicate 16 7 ++ replicate 4 9 ++ replicate 16 7)
+    ∷ splices (spliceOfBlock 64 48 (block 1 false 0) 4) (splice.Body 36)
+    ∷ lists (spliced (replicate 16 1 ++ replicate 16 2 ++ replicate 16 3) 16 16 (replicate 4 9)) (replicate 16 1 ++ replicate 4 9 ++ replicate 16 3)
     -- 10. n 32, size 16: num 1 served, no more; num 2 refusal 8.
-    ∷ chunks (chunkOf (block 1 false 0) 32) (chunk.Bytes (block 1 false 0) 16 32)
-    ∷ chunks (chunkOf (block 2 false 0) 32) (chunk.Refused 8)
+    ∷ chunks (chunkOf (block 1 true 0) 32) (chunk.Bytes (block 1 false 0) 16 32)
+    ∷ chunks (chunkOf (block 2 true 0) 32) (chunk.Refused 8)
     ∷ []

@@ -33,13 +33,13 @@ pub enum Chunk {
 pub fn request_block(given: bool, option: &[u8]) -> MaybeBlock
     ensures { λ r. ⌜ r ≡ requestBlock (optionOf given (now (option .entry))) ⌝ }
 {
-    if !given {
-        return MaybeBlock::Absent;
+    if given {
+        let Reading::Value(block) = block_value::read(option) else {
+            return MaybeBlock::Absent;
+        };
+        return MaybeBlock::Given(block);
     }
-    let Reading::Value(block) = block_value::read(option) else {
-        return MaybeBlock::Absent;
-    };
-    MaybeBlock::Given(block)
+    MaybeBlock::Absent
 }
 
 fn reply_of(made: Made) -> Negotiated
@@ -51,7 +51,7 @@ fn reply_of(made: Made) -> Negotiated
     }
 }
 
-// The block of at most `size` bytes that holds the byte at `offset`.
+// The reply to a block that starts at `offset`, for `size` bytes, unrounded: what is made need neither start there nor hold that byte.
 fn reply_at(offset: usize, size: usize, total_payload_size: usize) -> Negotiated
     requires { ⌜ (offset < 2 ^ 43) × (size ≤ 2048) ⌝ }
     ensures { λ r. ⌜ r ≡ replyAt offset size «total_payload_size» ⌝ }

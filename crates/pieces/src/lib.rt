@@ -5,7 +5,7 @@ ghost use lib.ListN.{length, replicate};
 ghost use Rattle.pieces.specs.Memory.{patch, part};
 ghost use Rattle.pieces.specs.Splice.{splicedLength, spliceOf, pieceAfter, leftBy};
 
-// The most that one block may lie past the end of what is assembled.
+// The most that a block may end past what is assembled.
 const MAXIMUM_UNCOMMITTED_BUFFER_RESERVE_LENGTH: usize = 16384;
 
 // What a splice answers.
