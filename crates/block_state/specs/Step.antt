@@ -23,6 +23,7 @@ use Rattle.block_state.specs.declared.Config.{Config}
 use Rattle.block_state.specs.declared.Assembled.{Assembled}
 use Rattle.block_state.specs.declared.BlockState.{BlockState}
 use Rattle.block_state.specs.declared.Part.{Part}
+use Rattle.block_state.specs.declared.Stepped.{Stepped}
 use Rattle.block_state.specs.declared.Answer.{Answer}
 use Rattle.block_state.specs.declared.Answer.the-variants.{Continue, TooLarge, Handed, Pass, Served, Plain, Whole, First, Refused}
 use Rattle.block_state.specs.Message.{Request, Response}
@@ -36,6 +37,10 @@ pub record Left : Type 0 where
 
 abbrev pub left : BlockState → List ℕ → Answer → Left
 left s piece a = record { state = s; piece = piece; answer = a }
+
+-- The same without the piece, as the code returns it.
+abbrev pub stepped : BlockState → Answer → Stepped
+stepped s a = record { state = s; answer = a }
 
 -- n bytes from index `at` on.
 abbrev pub bytesFrom : ℕ → ℕ → Part
@@ -55,7 +60,7 @@ notNext a b = not (eqb (b .num) 0) && not (eqb (blockStart b) (a .len) && eqb (b
 unfoldable pub lengthMet : Bool → Assembled → BlockValue → ℕ
 lengthMet strict a b = cond (strict && eqb (b .num) 0) 0 (a .len)
 
--- ---- A request call, on the upload piece. The key's response piece begins at `at` of the response memory, its upload piece at `home` of the upload memory.
+-- ---- A request call, on the key's upload piece, which begins at `home` of the upload memory; its response piece begins at `at` of the other
 
 -- Step 4, with a response cached: "serve the chunk from the cache: Served (head, chunk, Block2 value, Block1 value if step 2 made one),
 -- and drop the cache if no more follows". Refusal 8 keeps the cache.
@@ -73,61 +78,65 @@ onward at s u (Given b) block1 otherwise =
     let recorded = withRecorded s (Given b) in
     cond (s .cached .held) (served at recorded u block1 (chunkOf b (s .cached .payload))) (left recorded u otherwise)
 
--- Step 2, once the splice has answered: "If more: Continue. .. Otherwise the body is complete, assembled length becomes 0, go on."
-unfoldable pub spliced : ℕ → ℕ → BlockState → List ℕ → Request → BlockValue → BlockValue → ℕ → Splice → Left
-spliced home at s u r b reply l (splice.Refused n) = left s u (Refused n)
-spliced home at s u r b reply l (splice.Body n) =
-    let u′ = pieceAfter u l (blockStart b) (blockSize b) (r .payload) in
+-- Step 2, with n bytes assembled: "If more: Continue (2.31, the Block1 value), done. Otherwise the body is complete, assembled length
+-- becomes 0, go on."
+unfoldable pub taken : ℕ → ℕ → BlockState → List ℕ → MaybeBlock → BlockValue → BlockValue → ℕ → Left
+taken home at s u block2 b reply n =
     cond (b .more)
-    (left (withAssembled s (assembly n (b .«size_exponent»))) u′ (Continue reply))
-    (onward at (withAssembled s (assembly 0 0)) u′ (requestBlock (r .block2)) (Given reply) (Handed reply (bytesFrom home n)))
+    (left (withAssembled s (assembly n (b .«size_exponent»))) u (Continue reply))
+    (onward at (withAssembled s (assembly 0 0)) u block2 (Given reply) (Handed reply (bytesFrom home n)))
 
--- Strict mode's two checks, then step 2's splice.
-unfoldable pub block1Given : Config → ℕ → ℕ → BlockState → List ℕ → Request → BlockValue → BlockValue → Left
-block1Given c home at s u r b reply =
-    let p = length (r .payload) in
+-- Step 2: "Block1 given: splice", where l bytes are assembled.
+unfoldable pub spliced : ℕ → ℕ → BlockState → List ℕ → MaybeBlock → List ℕ → BlockValue → BlockValue → ℕ → Splice → Left
+spliced home at s u block2 payload b reply l (splice.Refused n) = left s u (Refused n)
+spliced home at s u block2 payload b reply l (splice.Body n) =
+    taken home at s (pieceAfter u l (blockStart b) (blockSize b) payload) block2 b reply n
+
+-- Strict mode's two checks, then step 2.
+unfoldable pub block1Given : Config → ℕ → ℕ → BlockState → List ℕ → MaybeBlock → List ℕ → BlockValue → BlockValue → Left
+block1Given c home at s u block2 payload b reply =
+    let p = length payload in
     let l = lengthMet (c .strict) (s .assembled) b in
     cond (c .strict && badForm b p) (left s u (Refused 10))
     (cond (c .strict && notNext (s .assembled) b) (left s u (Refused 9))
-    (spliced home at s u r b reply l (spliceOf (c .upload) l (blockStart b) (blockSize b) p)))
+    (spliced home at s u block2 payload b reply l (spliceOf (c .upload) l (blockStart b) (blockSize b) p)))
 
--- Step 1 has negotiated. Step 3: "Block1 absent and a block came out: TooLarge." (With Block1 given a block always comes out, or a refusal.)
-unfoldable pub onNegotiated : Config → ℕ → ℕ → BlockState → List ℕ → Request → MaybeBlock → Negotiated → Left
-onNegotiated c home at s u r b (agreed.Refused n) = left s u (Refused n)
-onNegotiated c home at s u r Absent agreed.NoBlock = onward at s u (requestBlock (r .block2)) Absent Pass
-onNegotiated c home at s u r Absent (agreed.Block reply) = left s u (TooLarge reply)
-onNegotiated c home at s u r (Given b) agreed.NoBlock = onward at s u (requestBlock (r .block2)) Absent Pass
-onNegotiated c home at s u r (Given b) (agreed.Block reply) = block1Given c home at s u r b reply
+-- Step 1 has negotiated. Step 3: "Block1 absent and a block came out: TooLarge (4.13, that value), done." (With Block1 given, a block or a
+-- refusal comes out.)
+unfoldable pub onNegotiated : Config → ℕ → ℕ → BlockState → List ℕ → MaybeBlock → List ℕ → MaybeBlock → Negotiated → Left
+onNegotiated c home at s u block2 payload block1 (agreed.Refused n) = left s u (Refused n)
+onNegotiated c home at s u block2 payload block1 agreed.NoBlock = onward at s u block2 Absent Pass
+onNegotiated c home at s u block2 payload Absent (agreed.Block reply) = left s u (TooLarge reply)
+onNegotiated c home at s u block2 payload (Given b) (agreed.Block reply) = block1Given c home at s u block2 payload b reply
 
 -- Step 1: "Negotiate with Block1, always."
 unfoldable pub stepRequest : Config → ℕ → ℕ → BlockState → List ℕ → Request → Left
 stepRequest c home at s u r =
     let block1 = requestBlock (r .block1) in
-    onNegotiated c home at s u r block1 (negotiated block1 (r .bare) (length (r .payload)) (c .limit))
+    onNegotiated c home at s u (requestBlock (r .block2)) (r .payload) block1
+    (negotiated block1 (r .bare) (length (r .payload)) (c .limit))
 
--- ---- A response call, on the response piece
+-- ---- A response call, on the key's response piece
 
 -- "If no more follows: Whole, nothing cached. .. Else head then payload are copied to the start of the piece, its other bytes staying
--- (refusal 7 if their sum exceeds V): First, with the chunk."
-unfoldable pub chunked : Config → BlockState → List ℕ → Response → Chunk → Left
-chunked c s d r (chunk.Refused n) = left s d (Refused n)
-chunked c s d r (chunk.Bytes b from to) =
-    let h = length (r .head) in
-    let p = length (r .payload) in
+-- (refusal 7 if their sum exceeds V): First, with the chunk." The chunk is a part of the response's own payload.
+unfoldable pub chunked : Config → BlockState → List ℕ → List ℕ → List ℕ → Chunk → Left
+chunked c s d head payload (chunk.Refused n) = left s d (Refused n)
+chunked c s d head payload (chunk.Bytes b from to) =
     let part : Part = record { from = from; to = to } in
     cond (b .more)
-    (cond (ltb (c .response) (h + p)) (left s d (Refused 7))
-    (left (withCached s (caching h p)) (patch d 0 (r .head ++ r .payload)) (First b part)))
+    (cond (ltb (c .response) (length head + length payload)) (left s d (Refused 7))
+    (left (withCached s (caching (length head) (length payload))) (patch d 0 (head ++ payload)) (First b part)))
     (left s d (Whole b part))
 
--- "Negotiate with the recorded Block2 value; no block: Plain. Else take that chunk of the payload."
-unfoldable pub onReply : Config → BlockState → List ℕ → Response → Negotiated → Left
-onReply c s d r (agreed.Refused n) = left s d (Refused n)
-onReply c s d r agreed.NoBlock = left s d Plain
-onReply c s d r (agreed.Block b) = chunked c s d r (chunkOf b (length (r .payload)))
+-- "Negotiate with the recorded Block2 value; no block: Plain. Else take that chunk of the payload (refusal 8 possible)."
+unfoldable pub onReply : Config → BlockState → List ℕ → List ℕ → List ℕ → Negotiated → Left
+onReply c s d head payload (agreed.Refused n) = left s d (Refused n)
+onReply c s d head payload agreed.NoBlock = left s d Plain
+onReply c s d head payload (agreed.Block b) = chunked c s d head payload (chunkOf b (length payload))
 
 -- "If the response has its own Block2 option: Plain."
 unfoldable pub stepResponse : Config → BlockState → List ℕ → Response → Left
 stepResponse c s d r =
     cond (r .own) (left s d Plain)
-    (onReply c s d r (negotiated (recordedBlock (s .recorded)) (r .bare) (length (r .payload)) (c .limit)))
+    (onReply c s d (r .head) (r .payload) (negotiated (recordedBlock (s .recorded)) (r .bare) (length (r .payload)) (c .limit)))

@@ -1,9 +1,13 @@
 // One key's state, and one call's step on it and on its piece of memory, by value.
 use block_value::BlockValue;
-use negotiation::Chunk;
 use negotiation::MaybeBlock;
-use negotiation::Negotiated;
-use pieces::Splice;
+
+mod request;
+mod response;
+mod state;
+
+pub use request::step_request;
+pub use response::step_response;
 
 // BlockHandlerConfig in the Rust, with the mode and the sizes of the pieces.
 pub struct Config {

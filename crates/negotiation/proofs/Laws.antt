@@ -5,7 +5,7 @@ use mathlib.Core.List.{List}
 use Prim.Native.Nat.{ℕ, _+_, _-_, _*_, _/_, _^_, min, _≤_, _<_}
 use native.Mathlib.Omega.{arith}
 use lib.Dec.{ltb, leb, eqb}
-use borrow.Author.Tests.{lt-ltb, le-ltb, le-leb, lt-leb, eq-eqb, ne-eqb}
+use borrow.Author.Tests.{lt-ltb, le-ltb, le-leb, lt-leb, eq-eqb, ne-eqb, leb-true, leb-false}
 use Rattle.block_value.specs.Value.{made, blockSize, blockStart, readOf}
 use Rattle.block_value.specs.declared.BlockValue.{BlockValue}
 use Rattle.block_value.specs.declared.Reading.{Reading}
@@ -71,3 +71,16 @@ module _ (b : BlockValue) (n size from : ℕ) (is : size ≡ blockSize b) (start
   chunk-bytes to h e =
       let next : (b .num + 1) * blockSize b ≡ from + size = omega arith in
       rw (next, ← start, lt-leb n from h, e, is)
+
+-- a chunk lies within its payload
+pub chunk-within : (b : BlockValue) (n : ℕ) (x : BlockValue) (from to : ℕ) → chunkOf b n ≡ chunk-variants.Bytes x from to → (from ≤ n) × (to ≤ n)
+chunk-within b n x from to e = go (leb n (blockStart b)) refl
+  where
+    go : (t : Bool) → leb n (blockStart b) ≡ t → (from ≤ n) × (to ≤ n)
+    go true h = let no : _≡_ {A = ℕ} 0 1 = cc (chunk-past b n (blockSize b) (blockStart b) refl refl (leb-true n (blockStart b) h)) in absurd (omega arith)
+    go false h =
+        let below = leb-false n (blockStart b) h in
+        let same = chunk-bytes b n (blockSize b) (blockStart b) refl refl _ below refl in
+        let a : from ≡ blockStart b = cc in
+        let z : to ≡ min (blockStart b + blockSize b) n = cc in
+        (omega arith, omega arith)

@@ -1,12 +1,14 @@
 -- The laws of the splice: what the code's steps leave, the answer by its cases, and the next block in order. Assumes nothing.
 use mathlib.Core.Path.{_≡_, refl, sym, ap, _∙_}
+use mathlib.Core.Bool.{Bool, true, false}
 use mathlib.Core.List.{List, [], _∷_, _++_, append-assoc, append-nil}
 use Prim.Native.Nat.{ℕ, _+_, _-_, _≤_, _<_, max}
 use native.Mathlib.Nat.{zero-add}
 use native.Mathlib.Omega.{arith}
+use lib.Dec.{ltb}
 use lib.ListN.{length, take, drop, replicate, length-append, length-take, length-drop, length-replicate, drop-of-length-le}
 use lib.Seq.{take-all, take-take, take-add, drop-at, length-take-le}
-use borrow.Author.Tests.{lt-ltb, le-ltb}
+use borrow.Author.Tests.{lt-ltb, le-ltb, ltb-true, ltb-false}
 use Rattle.pieces.specs.declared.Splice.{Splice}
 use Rattle.pieces.specs.declared.Splice.the-variants.{Body, Refused}
 use Rattle.pieces.specs.Memory.{patch, part}
@@ -79,6 +81,18 @@ module _ (u l a s p : ℕ) where
   pub taken : a + s - l ≤ 16384 → splicedLength l a s p ≤ u → spliceOf u l a s p ≡ Body (splicedLength l a s p)
   unfolding spliceOf
   taken h k = rw (le-ltb 16384 (a + s - l) h, le-ltb u (splicedLength l a s p) k)
+
+  -- a splice that is taken has the length that the document says, and fits
+  pub taken-is : (n : ℕ) → spliceOf u l a s p ≡ Body n → (n ≡ splicedLength l a s p) × (n ≤ u)
+  taken-is n e = go (ltb 16384 (a + s - l)) (ltb u (splicedLength l a s p)) refl refl
+    where
+      go : (f g : Bool) → ltb 16384 (a + s - l) ≡ f → ltb u (splicedLength l a s p) ≡ g → (n ≡ splicedLength l a s p) × (n ≤ u)
+      go true g h k = let no : _≡_ {A = ℕ} 0 1 = cc (too-far (ltb-true 16384 (a + s - l) h)) in absurd (omega arith)
+      go false true h k = let no : _≡_ {A = ℕ} 0 1 = cc (too-small (ltb-false 16384 (a + s - l) h) (ltb-true u (splicedLength l a s p) k)) in absurd (omega arith)
+      go false false h k =
+          let fits = ltb-false u (splicedLength l a s p) k in
+          let q : n ≡ splicedLength l a s p = cc (taken (ltb-false 16384 (a + s - l) h) fits) in
+          (q, omega arith)
 
 -- ---- the new body
 
