@@ -32,7 +32,7 @@ use Rattle.block_state.specs.declared.Answer.{Answer}
 use Rattle.block_state.specs.declared.Answer.the-variants.{Continue, TooLarge, Handed, Pass, Plain, Whole, Refused}
 use Rattle.block_state.specs.Message.{Request, Response}
 use Rattle.block_state.specs.State.{assembly, recordedBlock, withAssembled, withRecorded}
-use Rattle.block_state.specs.Step.{Left, left, bytesFrom, badForm, notNext, lengthMet, served, onward, spliced, block1Given, onNegotiated, stepRequest, chunked, onReply, stepResponse}
+use Rattle.block_state.specs.Step.{Left, left, bytesFrom, badForm, notNext, lengthMet, served, onward, taken, spliced, block1Given, onNegotiated, stepRequest, chunked, onReply, stepResponse}
 use Rattle.block_state.proofs.Tests.{on-test}
 use Rattle.block_state.proofs.Fits.{StateFits, assembled-most, assembly-ok, kept-ok, caching-ok, Held, recording-ok}
 
@@ -95,69 +95,66 @@ module _ (c : Config) where
   unfolding lengthMet
   met-most a b h = on-test (λ n. n ≤ c .upload) (c .strict && eqb (b .num) 0) (λ _. omega arith) (λ _. h)
 
-  spliced-keeps : (home at : ℕ) (s : BlockState) (u : List ℕ) (r : Request) (b reply : BlockValue) (l : ℕ)
-      → b .«size_exponent» ≤ 7 → OptionBytes (r .block2) → l ≤ c .upload → StateFits c s → length u ≡ c .upload
-      → Keeps c (c .upload) (spliced home at s u r b reply l (spliceOf (c .upload) l (blockStart b) (blockSize b) (length (r .payload))))
-  unfolding spliced spliceOf
-  spliced-keeps home at s u r b reply l x o m f h =
-      let n : ℕ = splicedLength l (blockStart b) (blockSize b) (length (r .payload)) in
-      let u′ : List ℕ = pieceAfter u l (blockStart b) (blockSize b) (r .payload) in
-      let P : Splice → Type 0 = λ g. Keeps c (c .upload) (spliced home at s u r b reply l g) in
+  spliced-keeps : (home at : ℕ) (s : BlockState) (u : List ℕ) (block2 : MaybeBlock) (payload : List ℕ) (b reply : BlockValue) (l : ℕ)
+      → b .«size_exponent» ≤ 7 → Held 4095 block2 → l ≤ c .upload → StateFits c s → length u ≡ c .upload
+      → Keeps c (c .upload) (spliced home at s u block2 payload b reply l (spliceOf (c .upload) l (blockStart b) (blockSize b) (length payload)))
+  unfolding spliced spliceOf taken
+  spliced-keeps home at s u block2 payload b reply l x o m f h =
+      let n : ℕ = splicedLength l (blockStart b) (blockSize b) (length payload) in
+      let u′ : List ℕ = pieceAfter u l (blockStart b) (blockSize b) payload in
+      let P : Splice → Type 0 = λ g. Keeps c (c .upload) (spliced home at s u block2 payload b reply l g) in
       on-test P (ltb 16384 (blockStart b + blockSize b - l)) (λ _. as-it-was (c .upload) s u (Refused 6) f h)
       (λ _. on-test P (ltb (c .upload) n) (λ _. as-it-was (c .upload) s u (Refused 7) f h)
       (λ fits.
       let hn : n ≤ c .upload = ltb-false (c .upload) n fits in
-      let h′ : length u′ ≡ c .upload = length-after u l (blockStart b) (blockSize b) (r .payload) (omega arith) (omega arith) ∙ h in
+      let h′ : length u′ ≡ c .upload = length-after u l (blockStart b) (blockSize b) payload (omega arith) (omega arith) ∙ h in
       on-test (Keeps c (c .upload)) (b .more)
       (λ _. as-it-was (c .upload) (withAssembled s (assembly n (b .«size_exponent»))) u′ (Continue reply)
       (record { assembled = assembly-ok c n (b .«size_exponent») hn x; cached = f .cached; recorded = f .recorded }) h′)
-      (λ _. onward-keeps (c .upload) at (withAssembled s (assembly 0 0)) u′ (requestBlock (r .block2)) (Given reply) (Handed reply (bytesFrom home n))
-      (read-held (r .block2) o) (record { assembled = assembly-ok c 0 0 (omega arith) (omega arith); cached = f .cached; recorded = f .recorded }) h′)))
+      (λ _. onward-keeps (c .upload) at (withAssembled s (assembly 0 0)) u′ block2 (Given reply) (Handed reply (bytesFrom home n))
+      o (record { assembled = assembly-ok c 0 0 (omega arith) (omega arith); cached = f .cached; recorded = f .recorded }) h′)))
 
-  block1-keeps : (home at : ℕ) (s : BlockState) (u : List ℕ) (r : Request) (b reply : BlockValue)
-      → b .«size_exponent» ≤ 7 → OptionBytes (r .block2) → StateFits c s → length u ≡ c .upload
-      → Keeps c (c .upload) (block1Given c home at s u r b reply)
+  block1-keeps : (home at : ℕ) (s : BlockState) (u : List ℕ) (block2 : MaybeBlock) (payload : List ℕ) (b reply : BlockValue)
+      → b .«size_exponent» ≤ 7 → Held 4095 block2 → StateFits c s → length u ≡ c .upload
+      → Keeps c (c .upload) (block1Given c home at s u block2 payload b reply)
   unfolding block1Given
-  block1-keeps home at s u r b reply x o f h =
-      on-test (Keeps c (c .upload)) (c .strict && badForm b (length (r .payload))) (λ _. as-it-was (c .upload) s u (Refused 10) f h)
+  block1-keeps home at s u block2 payload b reply x o f h =
+      on-test (Keeps c (c .upload)) (c .strict && badForm b (length payload)) (λ _. as-it-was (c .upload) s u (Refused 10) f h)
       (λ _. on-test (Keeps c (c .upload)) (c .strict && notNext (s .assembled) b) (λ _. as-it-was (c .upload) s u (Refused 9) f h)
-      (λ _. spliced-keeps home at s u r b reply (lengthMet (c .strict) (s .assembled) b) x o
+      (λ _. spliced-keeps home at s u block2 payload b reply (lengthMet (c .strict) (s .assembled) b) x o
       (met-most (s .assembled) b (assembled-most c (s .assembled) (f .assembled))) f h))
 
-  negotiated-keeps : (home at : ℕ) (s : BlockState) (u : List ℕ) (r : Request) (b : MaybeBlock) (g : Negotiated)
-      → Held 4095 b → OptionBytes (r .block2) → StateFits c s → length u ≡ c .upload
-      → Keeps c (c .upload) (onNegotiated c home at s u r b g)
+  negotiated-keeps : (home at : ℕ) (s : BlockState) (u : List ℕ) (block2 : MaybeBlock) (payload : List ℕ) (b : MaybeBlock) (g : Negotiated)
+      → Held 4095 b → Held 4095 block2 → StateFits c s → length u ≡ c .upload
+      → Keeps c (c .upload) (onNegotiated c home at s u block2 payload b g)
   unfolding onNegotiated
-  negotiated-keeps home at s u r b (agreed.Refused n) held o f h = as-it-was (c .upload) s u (Refused n) f h
-  negotiated-keeps home at s u r Absent agreed.NoBlock held o f h =
-      onward-keeps (c .upload) at s u (requestBlock (r .block2)) Absent Pass (read-held (r .block2) o) f h
-  negotiated-keeps home at s u r Absent (agreed.Block reply) held o f h = as-it-was (c .upload) s u (TooLarge reply) f h
-  negotiated-keeps home at s u r (Given b) agreed.NoBlock held o f h =
-      onward-keeps (c .upload) at s u (requestBlock (r .block2)) Absent Pass (read-held (r .block2) o) f h
-  negotiated-keeps home at s u r (Given b) (agreed.Block reply) held o f h = block1-keeps home at s u r b reply (held .1) o f h
+  negotiated-keeps home at s u block2 payload b (agreed.Refused n) held o f h = as-it-was (c .upload) s u (Refused n) f h
+  negotiated-keeps home at s u block2 payload b agreed.NoBlock held o f h = onward-keeps (c .upload) at s u block2 Absent Pass o f h
+  negotiated-keeps home at s u block2 payload Absent (agreed.Block reply) held o f h = as-it-was (c .upload) s u (TooLarge reply) f h
+  negotiated-keeps home at s u block2 payload (Given b) (agreed.Block reply) held o f h = block1-keeps home at s u block2 payload b reply (held .1) o f h
 
   pub request-keeps : (home at : ℕ) (s : BlockState) (u : List ℕ) (r : Request)
       → OptionBytes (r .block1) → OptionBytes (r .block2) → StateFits c s → length u ≡ c .upload
       → Keeps c (c .upload) (stepRequest c home at s u r)
   unfolding stepRequest
   request-keeps home at s u r o₁ o₂ f h =
-      negotiated-keeps home at s u r (requestBlock (r .block1))
-      (negotiated (requestBlock (r .block1)) (r .bare) (length (r .payload)) (c .limit)) (read-held (r .block1) o₁) o₂ f h
+      negotiated-keeps home at s u (requestBlock (r .block2)) (r .payload) (requestBlock (r .block1))
+      (negotiated (requestBlock (r .block1)) (r .bare) (length (r .payload)) (c .limit)) (read-held (r .block1) o₁) (read-held (r .block2) o₂) f h
 
   -- ---- a response
 
-  chunked-keeps : (s : BlockState) (d : List ℕ) (r : Response) (g : Chunk) → length (r .head) ≤ 128 → StateFits c s → length d ≡ c .response
-      → Keeps c (c .response) (chunked c s d r g)
+  chunked-keeps : (s : BlockState) (d head payload : List ℕ) (g : Chunk) → length head ≤ 128 → StateFits c s → length d ≡ c .response
+      → Keeps c (c .response) (chunked c s d head payload g)
   unfolding chunked
-  chunked-keeps s d r (chunk.Refused n) k f h = as-it-was (c .response) s d (Refused n) f h
-  chunked-keeps s d r (chunk.Bytes b from to) k f h =
+  chunked-keeps s d head payload (chunk.Refused n) k f h = as-it-was (c .response) s d (Refused n) f h
+  chunked-keeps s d head payload (chunk.Bytes b from to) k f h =
       on-test (Keeps c (c .response)) (b .more)
-      (λ _. on-test (Keeps c (c .response)) (ltb (c .response) (length (r .head) + length (r .payload))) (λ _. as-it-was (c .response) s d (Refused 7) f h)
+      (λ _. on-test (Keeps c (c .response)) (ltb (c .response) (length head + length payload)) (λ _. as-it-was (c .response) s d (Refused 7) f h)
       (λ e.
-      let fits : length (r .head) + length (r .payload) ≤ c .response = ltb-false (c .response) (length (r .head) + length (r .payload)) e in
+      let fits : length head + length payload ≤ c .response = ltb-false (c .response) (length head + length payload) e in
       record {
-        state = record { assembled = f .assembled; cached = caching-ok c (length (r .head)) (length (r .payload)) k fits; recorded = f .recorded };
-        piece = length-patch d 0 (r .head ++ r .payload) (omega (arith, length-append (r .head) (r .payload))) ∙ h;
+        state = record { assembled = f .assembled; cached = caching-ok c (length head) (length payload) k fits; recorded = f .recorded };
+        piece = length-patch d 0 (head ++ payload) (omega (arith, length-append head payload)) ∙ h;
       }))
       (λ _. as-it-was (c .response) s d (Whole b (record { from = from; to = to })) f h)
 
@@ -168,7 +165,7 @@ module _ (c : Config) where
       on-test (Keeps c (c .response)) (r .own) (λ _. as-it-was (c .response) s d Plain f h)
       (λ _. reply-keeps (negotiated (recordedBlock (s .recorded)) (r .bare) (length (r .payload)) (c .limit)))
     where
-      reply-keeps : (g : Negotiated) → Keeps c (c .response) (onReply c s d r g)
+      reply-keeps : (g : Negotiated) → Keeps c (c .response) (onReply c s d (r .head) (r .payload) g)
       reply-keeps (agreed.Refused n) = as-it-was (c .response) s d (Refused n) f h
       reply-keeps agreed.NoBlock = as-it-was (c .response) s d Plain f h
-      reply-keeps (agreed.Block b) = chunked-keeps s d r (chunkOf b (length (r .payload))) k f h
+      reply-keeps (agreed.Block b) = chunked-keeps s d (r .head) (r .payload) (chunkOf b (length (r .payload))) k f h

@@ -1,10 +1,9 @@
 -- The laws of the steps, a law for each branch: what the code's answers come to. Assumes nothing.
 use Prim.Native.Nat.{ℕ, _+_, _≤_, _<_}
-use mathlib.Core.Path.{_≡_, refl, sym, ap, _∙_}
-use mathlib.Core.Bool.{Bool, true, false, cond, _&&_}
+use mathlib.Core.Path.{_≡_, ap, _∙_}
+use mathlib.Core.Bool.{true, false, _&&_}
 use mathlib.Core.List.{List, _++_}
 use lib.ListN.{length}
-use lib.Dec.{ltb}
 use borrow.Author.Tests.{lt-ltb, le-ltb}
 use Rattle.pieces.specs.Memory.{patch}
 use Rattle.pieces.specs.Splice.{spliceOf, pieceAfter}
@@ -22,13 +21,12 @@ use Rattle.negotiation.specs.declared.Chunk.{Chunk}
 use Rattle.negotiation.specs.declared.Chunk.the-variants as chunk
 use Rattle.block_state.specs.declared.Config.{Config}
 use Rattle.block_state.specs.declared.BlockState.{BlockState}
-use Rattle.block_state.specs.declared.Part.{Part}
 use Rattle.block_state.specs.declared.Stepped.{Stepped}
 use Rattle.block_state.specs.declared.Answer.{Answer}
 use Rattle.block_state.specs.declared.Answer.the-variants.{Continue, TooLarge, Handed, Pass, Served, Plain, Whole, First, Refused}
 use Rattle.block_state.specs.Message.{Request, Response}
 use Rattle.block_state.specs.State.{assembly, caching, keptWhile, recordedBlock, withAssembled, withCached, withRecorded}
-use Rattle.block_state.specs.Step.{Left, left, stepped, bytesFrom, badForm, notNext, lengthMet, served, onward, taken, spliced, block1Given, onNegotiated, stepRequest, chunked, onReply, stepResponse}
+use Rattle.block_state.specs.Step.{left, stepped, bytesFrom, badForm, notNext, lengthMet, served, onward, taken, spliced, block1Given, onNegotiated, stepRequest, chunked, onReply, stepResponse}
 
 -- what the code returns, beside the piece that it leaves
 pub returned : (r : Stepped) (s : BlockState) (u : List ℕ) (a : Answer) → r ≡ stepped s a → left (r .state) u (r .answer) ≡ left s u a

@@ -1,7 +1,7 @@
 -- What a call is handed besides its time and key. An option is absent, or its bytes.
-use Prim.Native.Nat.{ℕ, _<_}
+use Prim.Native.Nat.{ℕ}
 use mathlib.Core.Bool.{Bool}
-use mathlib.Core.List.{List, [], _∷_}
+use mathlib.Core.List.{List}
 use mathlib.Core.Option.{Option}
 
 -- A request: the length of the message encoded without its payload, its two Block options and its payload.

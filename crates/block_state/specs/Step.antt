@@ -1,7 +1,7 @@
 -- One call on the state of its key and on its piece (document 01, "A request call", "A response call", "Strict mode").
 -- A request works on the key's piece of the upload memory, a response on its piece of the response memory; neither changes the other.
 use Prim.Native.Nat.{ℕ, _+_}
-use mathlib.Core.Bool.{Bool, true, false, cond, not, _&&_, _||_}
+use mathlib.Core.Bool.{Bool, cond, not, _&&_, _||_}
 use mathlib.Core.List.{List, _++_}
 use lib.ListN.{length}
 use lib.Dec.{ltb, eqb}

@@ -15,11 +15,10 @@ ghost use mathlib.Core.Path.{_≡_};
 ghost use mathlib.Core.List.{List};
 ghost use Prim.Native.Nat.{ℕ, _^_, _<_, _≤_};
 ghost use lib.ListN.{length};
-ghost use Rattle.negotiation.specs.Negotiation.{optionOf};
 ghost use Rattle.negotiation.specs.Chunk.{chunkOf};
 ghost use Rattle.pieces.specs.Splice.{spliceOf};
 ghost use Rattle.block_value.specs.Value.{blockSize, blockStart};
-ghost use Rattle.block_state.specs.Step.{left, badForm, notNext, lengthMet, served, onward, taken, spliced, block1Given, onNegotiated, stepRequest};
+ghost use Rattle.block_state.specs.Step.{left, badForm, notNext, lengthMet, served, onward, taken, spliced, block1Given, stepRequest};
 ghost use Rattle.block_state.specs.Contract.{asking, Room};
 
 // Serves the chunk that the block asks for from the cache, whose piece begins at `at`: maybe_serve_cached_response in the Rust.

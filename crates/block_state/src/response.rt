@@ -17,7 +17,7 @@ ghost use lib.ListN.{length};
 ghost use Rattle.pieces.specs.Memory.{patch};
 ghost use Rattle.negotiation.specs.Chunk.{chunkOf};
 ghost use Rattle.block_state.specs.State.{caching, withCached};
-ghost use Rattle.block_state.specs.Step.{left, chunked, onReply, stepResponse};
+ghost use Rattle.block_state.specs.Step.{left, chunked, stepResponse};
 ghost use Rattle.block_state.specs.Contract.{replying};
 
 // Copies head, then payload, to the start of the piece.

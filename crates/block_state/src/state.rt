@@ -9,7 +9,7 @@ use block_value::BlockValue;
 use negotiation::MaybeBlock;
 ghost use mathlib.Core.Path.{_≡_};
 ghost use Prim.Native.Nat.{_^_, _<_};
-ghost use Rattle.block_state.specs.State.{assembly, noCache, keptWhile, caching, recording, recordedBlock, withAssembled, withCached, withRecorded};
+ghost use Rattle.block_state.specs.State.{assembly, keptWhile, recording, recordedBlock, withAssembled, withCached, withRecorded};
 ghost use Rattle.block_state.specs.Step.{stepped};
 
 pub fn answered(state: BlockState, answer: Answer) -> Stepped

@@ -2,7 +2,7 @@
 use Prim.Native.Nat.{ℕ, _-_}
 use mathlib.Core.Bool.{Bool, true, false, cond, not, _&&_}
 use mathlib.Core.List.{List, [], _∷_, map}
-use lib.ListN.{getD, set, replicate}
+use lib.ListN.{getD, replicate}
 use lib.Dec.{leb, ltb, eqb}
 use Rattle.block_state.specs.declared.Config.{Config}
 use Rattle.block_state.specs.declared.BlockState.{BlockState}

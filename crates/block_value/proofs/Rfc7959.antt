@@ -1,17 +1,17 @@
 -- Document 01's block value against RFC 7959's: what is read and written means what the RFC says. Assumes nothing.
-use mathlib.Core.Path.{_≡_, refl, sym, ap, _∙_}
-use mathlib.Core.Bool.{Bool, true, false, cond, true≢false, false≢true}
+use mathlib.Core.Path.{_≡_, refl, ap, _∙_}
+use mathlib.Core.Bool.{Bool, true, false, cond}
 use mathlib.Core.List.{List, [], _∷_}
-use Prim.Native.Nat.{ℕ, suc, _+_, _-_, _*_, _/_, _%_, _^_, _≤_, _<_}
+use Prim.Native.Nat.{ℕ, _+_, _*_, _/_, _%_, _^_, _≤_, _<_}
 use native.Mathlib.Nat.{pow-suc, mul-le-mul-right}
 use native.Mathlib.Omega.{arith}
 use lib.Dec.{ltb, eqb}
 use lib.ListN.{length, take}
-use borrow.Author.Tests.{eqb-true, eqb-false, ltb-true, ltb-false, eq-eqb, ne-eqb}
+use borrow.Author.Tests.{eqb-true, eqb-false, ltb-true, ltb-false}
 use Rattle.block_value.specs.Value.{sizeOf, unpacked, readOf, packed, shortest, written, inTwo}
 use Rattle.block_value.specs.Rfc7959.{uint, Bytes, Holds, bytesIn, Fewest}
 use Rattle.block_value.specs.declared.BlockValue.{BlockValue}
-use Rattle.block_value.specs.declared.Reading.the-variants.{Value, Unreadable}
+use Rattle.block_value.specs.declared.Reading.the-variants.{Value}
 use Rattle.block_value.proofs.Laws.{size-is, short-0, short-1, short-2}
 
 -- ---- what bytes can spell

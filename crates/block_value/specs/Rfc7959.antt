@@ -1,6 +1,6 @@
 -- RFC 7959's own account of a Block option, apart from document 01's: an unsigned integer of 0 to 3 bytes that holds NUM, M and SZX.
 use Prim.Native.Nat.{ℕ, _+_, _*_, _^_, _≤_, _<_}
-use mathlib.Core.Bool.{Bool, true, false, cond}
+use mathlib.Core.Bool.{Bool, cond}
 use mathlib.Core.Path.{_≡_}
 use mathlib.Core.List.{List, [], _∷_}
 use lib.ListN.{length}

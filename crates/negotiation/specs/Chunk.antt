@@ -1,6 +1,6 @@
 -- Document 01, "Chunk".
 use Prim.Native.Nat.{ℕ, _+_, _*_, min}
-use mathlib.Core.Bool.{Bool, cond}
+use mathlib.Core.Bool.{cond}
 use lib.Dec.{leb, ltb}
 use Rattle.block_value.specs.Value.{blockSize, blockStart}
 use Rattle.block_value.specs.declared.BlockValue.{BlockValue}

@@ -1,6 +1,6 @@
 -- Document 01, "Negotiation", and "unreadable counts as absent".
 use Prim.Native.Nat.{ℕ, _+_, _-_, _/_, min}
-use mathlib.Core.Bool.{Bool, true, false, cond}
+use mathlib.Core.Bool.{Bool, true, cond}
 use mathlib.Core.List.{List}
 use mathlib.Core.Option.{Option, none, some}
 use lib.Dec.{ltb, eqb}

@@ -7,8 +7,8 @@ use native.Mathlib.Nat.{add-assoc, add-zero, zero-add, suc-mul, mul-le-mul-right
 use native.Mathlib.Numerals.{add-one}
 use native.Mathlib.Omega.{arith}
 use lib.Dec.{ltb}
-use lib.ListN.{length, getD, set, take, drop, length-append, length-take, length-drop, length-set, take-append-drop, List·getD-append, drop-of-length-le}
-use lib.Seq.{take-suc, drop-cons, take-all, take-take, take-at, drop-at, drop-drop, take-add, set-split, length-take-le, getD-append-add, getD-take, getD-drop, drop-append-le, take-append-le}
+use lib.ListN.{length, getD, set, take, drop, length-append, length-take, length-drop, take-append-drop}
+use lib.Seq.{take-take, take-at, drop-at, drop-drop, take-add, set-split, length-take-le, getD-take, getD-drop, drop-append-le, take-append-le}
 use borrow.Author.Tests.{ltb-true, ltb-false}
 use Rattle.pieces.specs.Memory.{patch, part, pieceOf, putPiece}
 

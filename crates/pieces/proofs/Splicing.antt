@@ -1,18 +1,17 @@
 -- The laws of the splice: what the code's steps leave, the answer by its cases, and the next block in order. Assumes nothing.
-use mathlib.Core.Path.{_≡_, refl, sym, ap, _∙_}
+use mathlib.Core.Path.{_≡_, refl, ap, _∙_}
 use mathlib.Core.Bool.{Bool, true, false}
-use mathlib.Core.List.{List, [], _∷_, _++_, append-assoc, append-nil}
-use Prim.Native.Nat.{ℕ, _+_, _-_, _≤_, _<_, max}
+use mathlib.Core.List.{List, [], _++_, append-assoc, append-nil}
+use Prim.Native.Nat.{ℕ, _+_, _-_, _≤_, _<_}
 use native.Mathlib.Nat.{zero-add}
 use native.Mathlib.Omega.{arith}
 use lib.Dec.{ltb}
 use lib.ListN.{length, take, drop, replicate, length-append, length-take, length-drop, length-replicate, drop-of-length-le}
 use lib.Seq.{take-all, take-take, take-add, drop-at, length-take-le}
 use borrow.Author.Tests.{lt-ltb, le-ltb, ltb-true, ltb-false}
-use Rattle.pieces.specs.declared.Splice.{Splice}
 use Rattle.pieces.specs.declared.Splice.the-variants.{Body, Refused}
 use Rattle.pieces.specs.Memory.{patch, part}
-use Rattle.pieces.specs.Splice.{spliced, splicedLength, spliceOf, pieceAfter, leftBy}
+use Rattle.pieces.specs.Splice.{spliced, splicedLength, spliceOf, pieceAfter}
 use Rattle.pieces.proofs.Memory.{patch-after, patch-front}
 
 -- a patch further on is one from the start, with the bytes before it as they are

@@ -1,7 +1,7 @@
 -- Document 01, "Splice": L bytes are assembled at the start of a piece of U bytes; a block of size s starts at a; its payload has p bytes.
 use Prim.Native.Nat.{ℕ, _+_, _-_, max}
-use mathlib.Core.Bool.{Bool, true, false, cond}
-use mathlib.Core.List.{List, [], _∷_, _++_}
+use mathlib.Core.Bool.{cond}
+use mathlib.Core.List.{List, _++_}
 use lib.Dec.{ltb}
 use lib.ListN.{length, take, drop, replicate}
 use Rattle.pieces.specs.Memory.{patch}

@@ -1,7 +1,6 @@
-use mathlib.Core.Path.{_≡_, sym, ap, _∙_}
-use Prim.Native.Nat.{ℕ, _-_}
+use mathlib.Core.Path.{sym}
+use Prim.Native.Nat.{_-_}
 use native.Mathlib.Omega.{arith}
-use Rattle.block_value.specs.Value.{exponentOf}
 use Rattle.block_value.proofs.Laws.{made-zero, made-large, made-far, made-well}
 use borrow.Author.Needs.{needs}
 use Rattle.block_value.proofs.make.Statement.{statement}

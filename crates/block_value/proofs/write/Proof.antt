@@ -1,5 +1,4 @@
-use mathlib.Core.Path.{_≡_, sym, ap}
-use native.Mathlib.Omega.{arith}
+use mathlib.Core.Path.{sym, ap}
 use Rattle.block_value.specs.Value.{inTwo}
 use Rattle.block_value.proofs.Laws.{short-0, short-1, short-2}
 use borrow.Author.Needs.{needs}

@@ -1,4 +1,4 @@
-use mathlib.Core.Path.{_≡_, sym, ap, _∙_}
+use mathlib.Core.Path.{sym, ap, _∙_}
 use native.Mathlib.Omega.{arith}
 use Rattle.negotiation.specs.Negotiation.{replyOf}
 use Rattle.negotiation.proofs.Laws.{no-room, with-room, absent-fits, absent-large, given-at}

@@ -1,8 +1,7 @@
-use mathlib.Core.Path.{_≡_, refl}
+use mathlib.Core.Path.{refl}
 use Prim.Native.Nat.{_-_}
 use native.Mathlib.Omega.{arith}
 use lib.ListN.{length}
-use Rattle.pieces.specs.Memory.{part}
 use Rattle.pieces.proofs.Loops.{Up, up-start, up-turn, up-done}
 use Rattle.pieces.proofs.copy_in.Statement.{statement}
 use Rattle.pieces.proofs.copy_in.Tie as tie

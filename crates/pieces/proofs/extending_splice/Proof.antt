@@ -1,4 +1,4 @@
-use mathlib.Core.Path.{_≡_, refl, sym, ap, _∙_}
+use mathlib.Core.Path.{refl, sym, ap, _∙_}
 use native.Mathlib.Omega.{arith}
 use Rattle.pieces.specs.declared.Splice.the-variants.{Body}
 use Rattle.pieces.proofs.Splicing.{too-far, too-small, taken}

@@ -1,7 +1,5 @@
-use mathlib.Core.Path.{_≡_, refl}
 use Prim.Native.Nat.{_-_}
 use native.Mathlib.Omega.{arith}
-use lib.ListN.{length}
 use Rattle.pieces.specs.Memory.{part}
 use Rattle.pieces.proofs.Memory.{length-part}
 use Rattle.pieces.proofs.Loops.{Up, up-start, up-turn, up-done, move-up-reads}

@@ -1,6 +1,5 @@
 use mathlib.Core.Path.{_≡_, sym}
 use native.Mathlib.Omega.{arith}
-use Rattle.pieces.specs.Memory.{patch, part}
 use Rattle.pieces.proofs.Memory.{patch-self}
 use borrow.Author.Needs.{needs}
 use Rattle.pieces.proofs.shift.Statement.{statement}

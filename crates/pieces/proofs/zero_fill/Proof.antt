@@ -2,7 +2,6 @@ use mathlib.Core.Path.{sym}
 use Prim.Native.Nat.{_-_}
 use native.Mathlib.Omega.{arith}
 use lib.ListN.{replicate, length-replicate, getD-replicate}
-use Rattle.pieces.specs.Memory.{part}
 use Rattle.pieces.proofs.Loops.{Up, up-start, up-turn, up-done}
 use Rattle.pieces.proofs.zero_fill.Statement.{statement}
 use Rattle.pieces.proofs.zero_fill.Tie as tie

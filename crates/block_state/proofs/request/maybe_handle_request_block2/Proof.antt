@@ -1,5 +1,5 @@
-use mathlib.Core.Path.{_≡_, sym, _∙_}
-use Rattle.block_state.proofs.Steps.{returned, onward-absent, onward-held, onward-none}
+use mathlib.Core.Path.{sym, _∙_}
+use Rattle.block_state.proofs.Steps.{onward-absent, onward-held, onward-none}
 use borrow.Author.Needs.{needs}
 use Rattle.block_state.proofs.request.maybe_handle_request_block2.Statement.{statement}
 use Rattle.block_state.proofs.request.maybe_handle_request_block2.Tie as tie

@@ -8,7 +8,7 @@ use Rattle.pieces.specs.declared.Splice.{Splice}
 use Rattle.pieces.proofs.Splicing.{taken-is}
 use Rattle.block_value.specs.Value.{blockSize, blockStart}
 use Rattle.block_state.specs.declared.Answer.the-variants.{Refused}
-use Rattle.block_state.specs.Step.{left, spliced, taken}
+use Rattle.block_state.specs.Step.{left, taken}
 use Rattle.block_state.proofs.Steps.{returned, spliced-refused, spliced-body}
 use borrow.Author.Needs.{needs}
 use Rattle.block_state.proofs.request.splice_block.Statement.{statement}

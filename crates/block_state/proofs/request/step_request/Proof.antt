@@ -1,4 +1,4 @@
-use mathlib.Core.Path.{_≡_, sym, ap, _∙_}
+use mathlib.Core.Path.{sym, _∙_}
 use Rattle.block_state.proofs.Steps.{returned, request-refused, request-plain, request-large, request-given}
 use borrow.Author.Needs.{needs}
 use Rattle.block_state.proofs.request.step_request.Statement.{statement}

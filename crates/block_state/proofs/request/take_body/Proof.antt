@@ -1,4 +1,4 @@
-use mathlib.Core.Path.{_≡_, sym, _∙_}
+use mathlib.Core.Path.{sym, _∙_}
 use Rattle.block_state.proofs.Steps.{taken-more, taken-last}
 use borrow.Author.Needs.{needs}
 use Rattle.block_state.proofs.request.take_body.Statement.{statement}

@@ -1,4 +1,4 @@
-use mathlib.Core.Path.{_≡_, sym, ap, _∙_}
+use mathlib.Core.Path.{sym, ap, _∙_}
 use Rattle.negotiation.specs.declared.Chunk.{Chunk}
 use Rattle.block_state.specs.Step.{chunked}
 use Rattle.block_state.proofs.Steps.{returned, chunked-refused, chunked-whole}

@@ -1,8 +1,6 @@
-use mathlib.Core.Path.{_≡_, sym, ap, _∙_}
-use Prim.Native.Nat.{ℕ}
+use mathlib.Core.Path.{_≡_, sym, _∙_}
 use lib.ListN.{length}
 use Rattle.negotiation.specs.Negotiation.{negotiated}
-use Rattle.negotiation.specs.declared.MaybeBlock.{MaybeBlock}
 use Rattle.block_state.specs.State.{recordedBlock}
 use Rattle.block_state.proofs.Steps.{returned, response-own, response-refused, response-plain, response-chunk}
 use borrow.Author.Needs.{needs}

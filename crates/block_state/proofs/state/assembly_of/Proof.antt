@@ -1,5 +1,4 @@
-use mathlib.Core.Path.{_≡_}
-use borrow.Author.Tests.{eq-eqb, ne-eqb}
+use borrow.Author.Tests.{ne-eqb}
 use borrow.Author.Needs.{needs}
 use Rattle.block_state.proofs.state.assembly_of.Statement.{statement}
 use Rattle.block_state.proofs.state.assembly_of.Tie as tie
