@@ -1,0 +1,4 @@
+pub mod Parts
+pub mod Call
+pub mod Verdict
+pub mod Contract

@@ -1,0 +1,27 @@
+-- How the code judges a call before it takes its step: by numbers alone, the same for requests and responses.
+use Prim.Native.Nat.{ℕ}
+use mathlib.Core.Bool.{Bool, cond, not, _&&_}
+use mathlib.Core.List.{List}
+use lib.Dec.{leb, ltb}
+use Rattle.block_state.specs.declared.Config.{Config}
+use Rattle.block_table.specs.declared.Table.{Table}
+use Rattle.block_table.specs.Keys.{keyOk}
+use Rattle.block_table.specs.Table.{tableOk, sweep, place}
+use Rattle.block_handler.specs.declared.Verdict.{Verdict}
+use Rattle.block_handler.specs.declared.Verdict.the-variants.{Refused, Place}
+use Rattle.block_handler.specs.Call.{configOk, memoriesOk}
+
+-- The limits of a message: its length without payload, and the lengths of its payload and of its head (0 for a request).
+unfoldable pub messageOk : ℕ → ℕ → ℕ → Bool
+messageOk bare payload head = leb bare 65535 && leb payload 65535 && leb head 128
+
+unfoldable pub limitsOk : Config → Table → ℕ → ℕ → List ℕ → ℕ → ℕ → ℕ → Bool
+limitsOk c t u v key bare payload head = configOk c && memoriesOk c u v && keyOk key && messageOk bare payload head && tableOk c t
+
+-- Checks 1, 2 and 3, or the key's place in the swept row.
+unfoldable pub verdictOf : Config → Table → ℕ → ℕ → ℕ → List ℕ → ℕ → ℕ → ℕ → Verdict
+verdictOf c t u v time key bare payload head =
+    cond (not (limitsOk c t u v key bare payload head)) (Refused 1)
+    (cond (ltb time (t .clock)) (Refused 2)
+    (cond (leb 16 (place key (sweep (c .lifetime) time (t .entries)))) (Refused 3)
+    (Place (place key (sweep (c .lifetime) time (t .entries))))))

@@ -1,0 +1,170 @@
+// The two calls.
+use block_state::Answer;
+use block_state::Config;
+use block_table::Table;
+use crate::judge;
+use crate::Outcome;
+use crate::Verdict;
+ghost use mathlib.Core.Path.{_≡_};
+ghost use mathlib.Core.List.{List};
+ghost use Prim.Native.Nat.{ℕ};
+ghost use lib.ListN.{length};
+ghost use Rattle.block_state.specs.Message.{request};
+ghost use Rattle.block_state.specs.Contract.{asking, replying};
+ghost use Rattle.block_table.specs.Table.{sweep, opened};
+ghost use Rattle.block_handler.specs.Call.{done, callAt};
+ghost use Rattle.block_handler.specs.Verdict.{verdictOf};
+ghost use Rattle.block_handler.specs.Contract.{world, requestCall, responseCall, Meant};
+
+fn refused(table: Table, n: u8) -> Outcome
+    ensures { λ r. ⌜ (r .table ≡ table) × (r .answer ≡ Answer.Refused n) ⌝ }
+{
+    let answer = Answer::Refused(n);
+    Outcome { table, answer }
+}
+
+// A request at its place: the step on entry i and on its piece, put back.
+fn request_at<'a>(
+    config: Config,
+    table: Table,
+    upload: &mut [u8],
+    v: usize,
+    time: u64,
+    key: &'a [u8],
+    i: usize,
+    bare: usize,
+    given1: bool,
+    block1: &'a [u8],
+    given2: bool,
+    block2: &'a [u8],
+    payload: &'a [u8],
+) -> Outcome
+    requires { ⌜ verdictOf config table (length (now upload)) v time (now key) bare (length (now payload)) 0 ≡ Verdict.Place i ⌝ }
+    ensures { λ r. ⌜ ((d : List ℕ) → done (world (r .table) (now (upload .exit)) d) (r .answer) ≡ callAt config (world table (now (upload .entry)) d) time (sweep (config .lifetime) time (table .entries)) i (opened (now (key .entry)) (sweep (config .lifetime) time (table .entries))) (request (asking bare given1 (now (block1 .entry)) given2 (now (block2 .entry)) (now (payload .entry))))) ⌝ }
+{
+    let entries = table.entries;
+    let row = block_table::sweep_row(entries, config.lifetime, time);
+    let at = row[i];
+    let e = block_table::start_from(at, key);
+    let state = e.state;
+    let home = i * config.upload;
+    let away = i * config.response;
+    let end = home + config.upload;
+    let step = block_state::step_request(
+        config,
+        home,
+        away,
+        state,
+        &mut upload[home..end],
+        bare,
+        given1,
+        block1,
+        given2,
+        block2,
+        payload,
+    );
+    let stored = e.key;
+    let left = step.state;
+    let next = block_table::put_entry(row, time, i, stored, left);
+    let answer = step.answer;
+    Outcome {
+        table: next,
+        answer,
+    }
+}
+
+// A response at its place.
+fn response_at<'a>(
+    config: Config,
+    table: Table,
+    response: &mut [u8],
+    u: usize,
+    time: u64,
+    key: &'a [u8],
+    i: usize,
+    bare: usize,
+    own: bool,
+    head: &'a [u8],
+    payload: &'a [u8],
+) -> Outcome
+    requires { ⌜ verdictOf config table u (length (now response)) time (now key) bare (length (now payload)) (length (now head)) ≡ Verdict.Place i ⌝ }
+    ensures { λ r. ⌜ ((m : List ℕ) → done (world (r .table) m (now (response .exit))) (r .answer) ≡ callAt config (world table m (now (response .entry))) time (sweep (config .lifetime) time (table .entries)) i (opened (now (key .entry)) (sweep (config .lifetime) time (table .entries))) (Rattle.block_state.specs.Message.response (replying bare own (now (head .entry)) (now (payload .entry))))) ⌝ }
+{
+    let entries = table.entries;
+    let row = block_table::sweep_row(entries, config.lifetime, time);
+    let at = row[i];
+    let e = block_table::start_from(at, key);
+    let state = e.state;
+    let from = i * config.response;
+    let end = from + config.response;
+    let step = block_state::step_response(
+        config,
+        state,
+        &mut response[from..end],
+        bare,
+        own,
+        head,
+        payload,
+    );
+    let stored = e.key;
+    let left = step.state;
+    let next = block_table::put_entry(row, time, i, stored, left);
+    let answer = step.answer;
+    Outcome {
+        table: next,
+        answer,
+    }
+}
+
+// A request, before the application sees it. The block options are given or not, and their bytes count only if they are.
+pub fn intercept_request<'a>(
+    config: Config,
+    table: Table,
+    upload: &mut [u8],
+    response: &'a [u8],
+    time: u64,
+    key: &'a [u8],
+    bare: usize,
+    given1: bool,
+    block1: &'a [u8],
+    given2: bool,
+    block2: &'a [u8],
+    payload: &'a [u8],
+) -> Outcome
+    ensures { λ r. ⌜ Meant config (world table (now (upload .entry)) (now (response .entry))) (requestCall time (now (key .entry)) bare given1 (now (block1 .entry)) given2 (now (block2 .entry)) (now (payload .entry))) (world (r .table) (now (upload .exit)) (now (response .entry))) (r .answer) ⌝ }
+{
+    let u = upload.len();
+    let v = response.len();
+    match judge::judge(config, table, u, v, time, key, bare, payload.len(), 0) {
+        Verdict::Refused(n) => refused(table, n),
+        Verdict::Place(i) => request_at(
+            config, table, upload, v, time, key, i, bare, given1, block1, given2, block2, payload,
+        ),
+    }
+}
+
+// A response, before it is sent. `own` says that it has a Block2 option of its own; `head` is its encoded header and options.
+pub fn intercept_response<'a>(
+    config: Config,
+    table: Table,
+    upload: &'a [u8],
+    response: &mut [u8],
+    time: u64,
+    key: &'a [u8],
+    bare: usize,
+    own: bool,
+    head: &'a [u8],
+    payload: &'a [u8],
+) -> Outcome
+    ensures { λ r. ⌜ Meant config (world table (now (upload .entry)) (now (response .entry))) (responseCall time (now (key .entry)) bare own (now (head .entry)) (now (payload .entry))) (world (r .table) (now (upload .entry)) (now (response .exit))) (r .answer) ⌝ }
+{
+    let u = upload.len();
+    let v = response.len();
+    let h = head.len();
+    match judge::judge(config, table, u, v, time, key, bare, payload.len(), h) {
+        Verdict::Refused(n) => refused(table, n),
+        Verdict::Place(i) => response_at(
+            config, table, response, u, time, key, i, bare, own, head, payload,
+        ),
+    }
+}

@@ -1,0 +1,82 @@
+// The checks 1, 2 and 3 before a step, and the key's place.
+use block_state::Config;
+use block_table::Table;
+use crate::Verdict;
+ghost use mathlib.Core.Path.{_≡_};
+ghost use Prim.Native.Nat.{_≤_};
+ghost use Rattle.block_handler.specs.Call.{between, configOk, memoriesOk};
+ghost use Rattle.block_handler.specs.Verdict.{messageOk, verdictOf};
+
+fn within(least: u64, n: u64, most: u64) -> bool
+    ensures { λ r. ⌜ r ≡ between least n most ⌝ }
+{
+    (least <= n) & (n <= most)
+}
+
+fn wide(n: usize) -> u64
+    ensures { λ r. ⌜ r ≡ n ⌝ }
+{
+    n as u64
+}
+
+fn config_ok(config: Config) -> bool
+    ensures { λ r. ⌜ r ≡ configOk config ⌝ }
+{
+    within(1, wide(config.limit), 65535)
+        & within(1, config.lifetime, 4294967295)
+        & within(16, wide(config.upload), 65536)
+        & within(16, wide(config.response), 65536)
+}
+
+fn memories_ok(config: Config, u: usize, v: usize) -> bool
+    requires { ⌜ (config .upload ≤ 65536) × (config .response ≤ 65536) ⌝ }
+    ensures { λ r. ⌜ r ≡ memoriesOk config u v ⌝ }
+{
+    (u == 16 * config.upload) & (v == 16 * config.response)
+}
+
+fn message_ok(bare: usize, payload: usize, head: usize) -> bool
+    ensures { λ r. ⌜ r ≡ messageOk bare payload head ⌝ }
+{
+    (bare <= 65535) & (payload <= 65535) & (head <= 128)
+}
+
+// Judges a call by numbers: the lengths of the memories, and those of the message (a request has a head of 0).
+pub fn judge(
+    config: Config,
+    table: Table,
+    u: usize,
+    v: usize,
+    time: u64,
+    key: &[u8],
+    bare: usize,
+    payload: usize,
+    head: usize,
+) -> Verdict
+    ensures { λ r. ⌜ r ≡ verdictOf config table u v time (now (key .entry)) bare payload head ⌝ }
+{
+    if !config_ok(config) {
+        return Verdict::Refused(1);
+    }
+    if !memories_ok(config, u, v) {
+        return Verdict::Refused(1);
+    }
+    if !block_table::key_ok(key) {
+        return Verdict::Refused(1);
+    }
+    if !message_ok(bare, payload, head) {
+        return Verdict::Refused(1);
+    }
+    if !block_table::valid(config, table) {
+        return Verdict::Refused(1);
+    }
+    if time < table.clock {
+        return Verdict::Refused(2);
+    }
+    let entries = table.entries;
+    let i = block_table::place_of(entries, config.lifetime, time, key);
+    if 16 <= i {
+        return Verdict::Refused(3);
+    }
+    Verdict::Place(i)
+}
