@@ -5,6 +5,8 @@ use negotiation::MaybeBlock;
 use negotiation::Negotiated;
 use pieces::Splice;
 
+pub mod limits;
+
 // BlockHandlerConfig in the Rust, with the mode and the sizes of the pieces.
 pub struct Config {
     pub strict: bool,
