@@ -2,7 +2,7 @@
 use Prim.Native.Nat.{ℕ, _+_, _*_}
 use mathlib.Core.Bool.{Bool, cond, not, _&&_}
 use mathlib.Core.List.{List, [], _∷_}
-use lib.Dec.{leb, ltb}
+use lib.Dec.{leb}
 use Rattle.digest.specs.Digest.{digestOf, folded}
 use Rattle.block_table.specs.declared.Entry.{Entry}
 use Rattle.block_table.specs.Lists.{all}

@@ -357,12 +357,12 @@ fn find_key(entries: [Entry; 16], lifetime: u64, time: u64, key: &[u8]) -> usize
 fn find_free(entries: [Entry; 16], lifetime: u64, time: u64) -> usize
     ensures { λ r. ⌜ r ≡ find (notLive lifetime time) entries ⌝ }
 {
-    let mut i = 0;
-    while i < 16 {
-        if !is_live(entries[i].used, entries[i].touched, lifetime, time) {
-            return i;
+    let mut at = 0;
+    while at < 16 {
+        if !is_live(entries[at].used, entries[at].touched, lifetime, time) {
+            return at;
         }
-        i += 1;
+        at += 1;
     }
     16
 }

@@ -12,10 +12,10 @@ use Rattle.block_table.proofs.find_free.Statement.{statement}
 use Rattle.block_table.proofs.find_free.Tie as tie
 
 abbrev Inv-loop : tie.InvT-loop
-Inv-loop lifetime time entries i₀ i = (length entries ≡ 16) × ((i ≤ 16) × (i + find (notLive lifetime time) (drop i entries) ≡ find (notLive lifetime time) entries))
+Inv-loop lifetime time entries at₀ at = (length entries ≡ 16) × ((at ≤ 16) × (at + find (notLive lifetime time) (drop at entries) ≡ find (notLive lifetime time) entries))
 
 abbrev μ-loop : tie.MeasureT-loop
-μ-loop lifetime time entries i₀ i = 16 - i
+μ-loop lifetime time entries at₀ at = 16 - at
 
 loop-holds : tie.Need-loop-holds Inv-loop μ-loop
 loop-holds c = (search needs, (search needs, omega arith))
@@ -39,10 +39,10 @@ returns : tie.Need-returns Inv-loop μ-loop
 returns c =
     let l = c .before .before .before in
     let gone = live-as _ _ _ _ (sym (not-true _ (c .if1 .taken)) ∙ c .before .is-live .ensures) in
-    find-here (notLive (l .before .args .lifetime) (l .before .args .time)) (l .before .args .t1) (l .loop .i) nil _ (search needs) (ap not gone) (l .loop .inv .1 .1)
+    find-here (notLive (l .before .args .lifetime) (l .before .args .time)) (l .before .args .t1) (l .loop .at) nil _ (search needs) (ap not gone) (l .loop .inv .1 .1)
 
-add-i : tie.Need-add-i Inv-loop μ-loop
-add-i c = search needs
+add-at : tie.Need-add-at Inv-loop μ-loop
+add-at c = search needs
 
 loop-less : tie.Need-loop-less Inv-loop μ-loop
 loop-less c = search needs
@@ -51,14 +51,14 @@ loop-again : tie.Need-loop-again Inv-loop μ-loop
 loop-again c =
     let l = c .before .before .before in
     let kept = live-as _ _ _ _ (sym (not-false _ (c .if1 .left)) ∙ c .before .is-live .ensures) in
-    let go = find-go (notLive (l .before .args .lifetime) (l .before .args .time)) (l .before .args .t1) (l .loop .i) nil _ (search needs) (ap not kept) (l .loop .inv .1 .1) in
+    let go = find-go (notLive (l .before .args .lifetime) (l .before .args .time)) (l .before .args .t1) (l .loop .at) nil _ (search needs) (ap not kept) (l .loop .inv .1 .1) in
     (search needs, (search needs, go))
 
 returns-2 : tie.Need-returns-2 Inv-loop μ-loop
 returns-2 c =
     let l = c .before in
-    let e : l .loop .i ≡ 16 = omega arith in
-    sym e ∙ find-end (notLive (l .before .args .lifetime) (l .before .args .time)) (l .before .args .t1) (l .loop .i) _ (omega arith) (l .loop .inv .1 .1)
+    let e : l .loop .at ≡ 16 = omega arith in
+    sym e ∙ find-end (notLive (l .before .args .lifetime) (l .before .args .time)) (l .before .args .t1) (l .loop .at) _ (omega arith) (l .loop .inv .1 .1)
 
 pub find-free-spec : {M : Type 1} → statement M
 find-free-spec =
@@ -73,7 +73,7 @@ find-free-spec =
     element-copy-out-is-live-2
     is-live-requires
     returns
-    add-i
+    add-at
     loop-less
     loop-again
     returns-2)
