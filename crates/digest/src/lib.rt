@@ -1,10 +1,10 @@
 // A number that equal keys have in common, and whether sixteen numbers all differ: how the keys of a table are told apart without comparing all pairs.
 ghost use mathlib.Core.Path.{_≡_};
 ghost use mathlib.Core.Bool.{cond};
-ghost use Prim.Native.Nat.{_+_, _*_, _/_, _%_, _≤_, _<_};
+ghost use Prim.Native.Nat.{_+_, _*_, _/_, _%_, _^_, _≤_, _<_};
 ghost use lib.ListN.{take};
 ghost use lib.Dec.{eqb};
-ghost use Rattle.digest.specs.Digest.{Low, Word, turn, stirred, cut, stirs, digestOf, folded, times, pairs};
+ghost use Rattle.digest.specs.Digest.{Read, turn, stirred, stirs, digestOf, folded, times, pairs};
 
 fn wide(x: u8) -> u64
     ensures { λ r. ⌜ (r ≡ x) × (r < 256) ⌝ }
@@ -12,19 +12,26 @@ fn wide(x: u8) -> u64
     x as u64
 }
 
-// A sum of bytes, which becomes one load.
-fn low(key: &[u8; 64], i: usize) -> u64
-    requires { ⌜ i + 4 ≤ 64 ⌝ }
-    ensures { λ r. ⌜ Low (now (key .entry)) i r ⌝ }
+// Two, four and eight bytes as one number. The sums become one load.
+fn pair(key: &[u8; 64], i: usize) -> u64
+    requires { ⌜ i + 2 ≤ 64 ⌝ }
+    ensures { λ r. ⌜ Read 2 (now (key .entry)) i r ⌝ }
 {
-    wide(key[i]) + wide(key[i + 1]) * 256 + wide(key[i + 2]) * 65536 + wide(key[i + 3]) * 16777216
+    wide(key[i]) + wide(key[i + 1]) * 256
+}
+
+fn half(key: &[u8; 64], i: usize) -> u64
+    requires { ⌜ i + 4 ≤ 64 ⌝ }
+    ensures { λ r. ⌜ Read 4 (now (key .entry)) i r ⌝ }
+{
+    pair(key, i) + pair(key, i + 2) * 65536
 }
 
 fn word(key: &[u8; 64], i: usize) -> u64
     requires { ⌜ i + 8 ≤ 64 ⌝ }
-    ensures { λ r. ⌜ Word (now (key .entry)) i r ⌝ }
+    ensures { λ r. ⌜ Read 8 (now (key .entry)) i r ⌝ }
 {
-    low(key, i) + low(key, i + 4) * 4294967296
+    half(key, i) + half(key, i + 4) * 4294967296
 }
 
 fn turned(d: u64) -> u64
@@ -42,7 +49,7 @@ fn stir(d: u64, w: u64) -> u64
 // The lowest `count` bytes of a word: cut by a constant each, since a shift by a variable has no laws here.
 fn part(w: u64, count: usize) -> u64
     requires { ⌜ count < 8 ⌝ }
-    ensures { λ r. ⌜ r ≡ cut w count ⌝ }
+    ensures { λ r. ⌜ r ≡ w % 256 ^ count ⌝ }
 {
     match count {
         0 => 0,

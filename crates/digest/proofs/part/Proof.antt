@@ -1,10 +1,19 @@
-use mathlib.Core.Path.{_≡_}
-use Rattle.digest.proofs.Words.{seven}
+use mathlib.Core.Path.{_≡_, sym}
+use Prim.Native.Nat.{ℕ, _≤_, _<_}
+use native.Mathlib.Omega.{arith}
+use native.Mathlib.Nat.{mod-one}
 use Rattle.digest.proofs.part.Statement.{statement}
 use Rattle.digest.proofs.part.Tie as tie
 
+-- The numbers that the last arm is not at, in two halves: omega splits no more than six.
+at-least : (n : ℕ) → (n ≡ 0 → ⊥) → (n ≡ 1 → ⊥) → (n ≡ 2 → ⊥) → (n ≡ 3 → ⊥) → 4 ≤ n
+at-least n a b c d = omega arith
+
+seventh : (n : ℕ) → n < 8 → 4 ≤ n → (n ≡ 4 → ⊥) → (n ≡ 5 → ⊥) → (n ≡ 6 → ⊥) → n ≡ 7
+seventh n h k a b c = omega arith
+
 returns : tie.Need-returns
-returns c = rw (c .match .keys1)
+returns c = rw (c .match .keys1) (sym (mod-one (c .before .args .w)))
 
 returns-2 : tie.Need-returns-2
 returns-2 c = rw (c .match .keys2)
@@ -25,7 +34,10 @@ returns-7 : tie.Need-returns-7
 returns-7 c = rw (c .match .keys7)
 
 returns-8 : tie.Need-returns-8
-returns-8 c = let h : c .before .args .count ≡ 7 = seven _ (c .before .pre) (c .match .rest .0 .0 .0 .0 .0 .0 .1) (c .match .rest .0 .0 .0 .0 .0 .1) (c .match .rest .0 .0 .0 .0 .1) (c .match .rest .0 .0 .0 .1) (c .match .rest .0 .0 .1) (c .match .rest .0 .1) (c .match .rest .1) in rw h
+returns-8 c =
+    let r = c .match .rest in
+    let some = at-least _ (r .0 .0 .0 .0 .0 .0 .1) (r .0 .0 .0 .0 .0 .1) (r .0 .0 .0 .0 .1) (r .0 .0 .0 .1) in
+    rw (seventh _ (c .before .pre) some (r .0 .0 .1) (r .0 .1) (r .1))
 
 pub part-spec : {M : Type 1} → statement M
 part-spec =
