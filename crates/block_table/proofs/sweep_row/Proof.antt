@@ -6,7 +6,7 @@ use native.Mathlib.Omega.{arith}
 use lib.ListN.{length, drop, take, length-set, drop-of-length-le}
 use lib.Seq.{take-all}
 use borrow.Author.Tests.{not-true, not-false}
-use Rattle.block_table.specs.Table.{swept, sweep, at}
+use Rattle.block_table.specs.Table.{swept, sweep}
 use Rattle.block_table.proofs.Turns.{live-as, swept-live, swept-free, map-set, map-keep}
 use borrow.Author.Needs.{needs}
 use Rattle.block_table.proofs.sweep_row.Statement.{statement}

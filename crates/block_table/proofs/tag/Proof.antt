@@ -1,9 +1,9 @@
 use mathlib.Core.Path.{_≡_, _∙_}
 use mathlib.Core.Bool.{true, false, _&&_}
+use native.Mathlib.Omega.{arith}
 use lib.Dec.{leb}
 use borrow.Author.Tests.{leb-true}
 use Rattle.block_table.specs.Keys.{keyOf}
-use Rattle.block_table.specs.Table.{at}
 use Rattle.block_table.specs.Quick.{tagOf}
 use Rattle.block_table.proofs.Turns.{and-right}
 use borrow.Author.Needs.{needs}
@@ -17,7 +17,7 @@ digest-requires : tie.Need-digest-requires
 digest-requires c κs =
     let b = c .before .before in
     let n = b .before .before .size .result in
-    leb-true n 64 (and-right (b .before .before .before .args .e .used) (leb n 64) (b .if1 .taken))
+    omega (arith, leb-true n 64 (and-right (b .before .before .before .args .e .used) (leb n 64) (b .if1 .taken)))
 
 fold-requires : tie.Need-fold-requires
 fold-requires c κs = search needs

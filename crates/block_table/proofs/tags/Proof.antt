@@ -3,7 +3,6 @@ use Prim.Native.Nat.{_-_, _≤_}
 use native.Mathlib.Omega.{arith}
 use lib.ListN.{length, take}
 use lib.Seq.{take-all}
-use Rattle.block_table.specs.Table.{at}
 use Rattle.block_table.specs.Quick.{tagsFrom}
 use Rattle.block_table.proofs.Turns.{nil}
 use Rattle.block_table.proofs.Quick.{tags-go, tags-length}

@@ -1,6 +1,5 @@
 use mathlib.Core.Path.{sym, _∙_}
 use borrow.Author.Tests.{not-true, not-false}
-use Rattle.block_table.specs.Table.{at}
 use Rattle.block_table.proofs.Quick.{off-each, by-tags, by-bytes}
 use borrow.Author.Needs.{needs}
 use Rattle.block_table.proofs.valid.Statement.{statement}
