@@ -2,10 +2,10 @@
 use block_value::BlockValue;
 use negotiation::MaybeBlock;
 
+pub mod limits;
 mod request;
 mod response;
 mod state;
-
 pub use request::step_request;
 pub use response::step_response;
 

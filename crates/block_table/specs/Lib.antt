@@ -1,3 +1,4 @@
 pub mod Lists
 pub mod Keys
 pub mod Table
+pub mod Quick

@@ -1,5 +1,20 @@
 // The table of sixteen entries and its clock: its limits, expiry, and the place of a key.
+use block_state::Assembled;
 use block_state::BlockState;
+use block_state::Cached;
+use block_state::Config;
+use block_state::Recorded;
+use block_state::limits;
+ghost use mathlib.Core.Path.{_≡_};
+ghost use mathlib.Core.Bool.{true, false, _&&_, cond};
+ghost use Prim.Native.Nat.{_-_, _≤_, _<_, _^_};
+ghost use lib.ListN.{length, take, drop, set};
+ghost use lib.Dec.{eqb, ltb};
+ghost use Rattle.block_state.specs.State.{nothing};
+ghost use Rattle.block_table.specs.Lists.{find, all};
+ghost use Rattle.block_table.specs.Keys.{same, keyOk, stored, isNoKey};
+ghost use Rattle.block_table.specs.Table.{inUse, free, entryOk, clash, distinct, tableOk, sweep, place, freshTable};
+ghost use Rattle.block_table.specs.Quick.{tagOf, tagsFrom, alone, holdsLive, notLive};
 
 #[repr(C)]
 pub struct Key {
@@ -19,4 +34,393 @@ pub struct Entry {
 pub struct Table {
     pub clock: u64,
     pub entries: [Entry; 16],
+}
+
+fn size(x: u8) -> usize
+    ensures { λ r. ⌜ (r ≡ x) × (r < 2 ^ 8) ⌝ }
+{
+    x as usize
+}
+
+fn small(x: usize) -> u8
+    requires { ⌜ x ≤ 64 ⌝ }
+    ensures { λ r. ⌜ r ≡ x ⌝ }
+{
+    x as u8
+}
+
+fn narrow(x: usize) -> u32
+    requires { ⌜ x < 16 ⌝ }
+    ensures { λ r. ⌜ r ≡ x ⌝ }
+{
+    x as u32
+}
+
+// ---- Keys
+
+pub fn key_ok(key: &[u8]) -> bool
+    ensures { λ r. ⌜ r ≡ keyOk (now (key .entry)) ⌝ }
+{
+    (1 <= key.len()) & (key.len() <= 64)
+}
+
+fn same_bytes(a: &[u8], b: &[u8]) -> bool
+    ensures { λ r. ⌜ r ≡ same (now (a .entry)) (now (b .entry)) ⌝ }
+{
+    if a.len() != b.len() {
+        return false;
+    }
+    let mut i = 0;
+    while i < a.len() {
+        if a[i] != b[i] {
+            return false;
+        }
+        i += 1;
+    }
+    true
+}
+
+// The key is the first `len` of the stored bytes, all of them where `len` is off the limits.
+fn same_key(key: &[u8], bytes: [u8; 64], len: usize) -> bool
+    ensures { λ r. ⌜ r ≡ same (now (key .entry)) (take len bytes) ⌝ }
+{
+    if len <= 64 {
+        return same_bytes(key, &bytes[..len]);
+    }
+    same_bytes(key, &bytes)
+}
+
+fn same_stored(a: [u8; 64], a_len: usize, b: [u8; 64], b_len: usize) -> bool
+    ensures { λ r. ⌜ r ≡ same (take «a_len» a) (take «b_len» b) ⌝ }
+{
+    if a_len <= 64 {
+        return same_key(&a[..a_len], b, b_len);
+    }
+    same_key(&a, b, b_len)
+}
+
+// Summed, since such a loop is vectorised.
+fn zero_bytes(bytes: [u8; 64]) -> bool
+    ensures { λ r. ⌜ r ≡ all (λ b. eqb b 0) bytes ⌝ }
+{
+    let mut sum = 0;
+    let mut i = 0;
+    while i < 64 {
+        sum += size(bytes[i]);
+        i += 1;
+    }
+    sum == 0
+}
+
+fn no_key(key: Key) -> bool
+    ensures { λ r. ⌜ r ≡ isNoKey key ⌝ }
+{
+    let bytes = key.bytes;
+    zero_bytes(bytes) & (key.len == 0)
+}
+
+fn padded(key: &[u8]) -> [u8; 64]
+    requires { ⌜ length (now key) ≤ 64 ⌝ }
+    ensures { λ r. ⌜ r ≡ stored (now (key .entry)) .bytes ⌝ }
+{
+    let mut bytes = [0u8; 64];
+    let mut i = 0;
+    while i < key.len() {
+        bytes[i] = key[i];
+        i += 1;
+    }
+    bytes
+}
+
+fn stored_key(key: &[u8]) -> Key
+    requires { ⌜ length (now key) ≤ 64 ⌝ }
+    ensures { λ r. ⌜ r ≡ stored (now (key .entry)) ⌝ }
+{
+    let bytes = padded(key);
+    Key {
+        bytes: bytes,
+        len: small(key.len()),
+    }
+}
+
+// ---- Limits
+
+fn used_ok(config: Config, clock: u64, e: Entry) -> bool
+    requires { ⌜ e .used ≡ true ⌝ }
+    ensures { λ r. ⌜ r ≡ entryOk config clock e ⌝ }
+{
+    let state = e.state;
+    (1 <= e.key.len) & (e.key.len <= 64) & (e.touched <= clock) & limits::state_ok(config, state)
+}
+
+fn free_ok(config: Config, clock: u64, e: Entry) -> bool
+    requires { ⌜ e .used ≡ false ⌝ }
+    ensures { λ r. ⌜ r ≡ entryOk config clock e ⌝ }
+{
+    let key = e.key;
+    let state = e.state;
+    no_key(key) & (e.touched == 0) & limits::is_nothing(state)
+}
+
+fn entry_ok(config: Config, clock: u64, e: Entry) -> bool
+    ensures { λ r. ⌜ r ≡ entryOk config clock e ⌝ }
+{
+    if e.used {
+        return used_ok(config, clock, e);
+    }
+    free_ok(config, clock, e)
+}
+
+fn each_ok(config: Config, clock: u64, entries: [Entry; 16]) -> bool
+    ensures { λ r. ⌜ r ≡ all (entryOk config clock) entries ⌝ }
+{
+    let mut i = 0;
+    while i < 16 {
+        let e = entries[i];
+        if !entry_ok(config, clock, e) {
+            return false;
+        }
+        i += 1;
+    }
+    true
+}
+
+fn tag(e: Entry, i: u32) -> u32
+    requires { ⌜ i < 16 ⌝ }
+    ensures { λ r. ⌜ r ≡ tagOf e i ⌝ }
+{
+    let len = size(e.key.len);
+    if e.used & (len <= 64) {
+        let key = e.key;
+        let bytes = key.bytes;
+        return digest::fold(digest::digest(bytes, len));
+    }
+    i * 2
+}
+
+fn tags(entries: [Entry; 16]) -> [u32; 16]
+    ensures { λ r. ⌜ (r ≡ tagsFrom 0 entries) × (length entries ≡ 16) ⌝ }
+{
+    let mut row = [0u32; 16];
+    let mut i = 0;
+    while i < 16 {
+        let e = entries[i];
+        row[i] = tag(e, narrow(i));
+        i += 1;
+    }
+    row
+}
+
+fn clashes(e: Entry, f: Entry) -> bool
+    ensures { λ r. ⌜ r ≡ clash e f ⌝ }
+{
+    if !e.used {
+        return false;
+    }
+    if !f.used {
+        return false;
+    }
+    let a = e.key;
+    let b = f.key;
+    let a_bytes = a.bytes;
+    let b_bytes = b.bytes;
+    same_stored(a_bytes, size(a.len), b_bytes, size(b.len))
+}
+
+fn alone_from(e: Entry, entries: [Entry; 16], from: usize) -> bool
+    ensures { λ r. ⌜ r ≡ alone e (drop from entries) ⌝ }
+{
+    let mut i = from;
+    while i < 16 {
+        let f = entries[i];
+        if clashes(e, f) {
+            return false;
+        }
+        i += 1;
+    }
+    true
+}
+
+// Byte by byte, which is slow: only where two digests are equal.
+fn all_distinct(entries: [Entry; 16]) -> bool
+    ensures { λ r. ⌜ r ≡ distinct entries ⌝ }
+{
+    let mut i = 0;
+    while i < 16 {
+        let e = entries[i];
+        if !alone_from(e, entries, i + 1) {
+            return false;
+        }
+        i += 1;
+    }
+    true
+}
+
+pub fn valid(config: Config, table: Table) -> bool
+    ensures { λ r. ⌜ r ≡ tableOk config table ⌝ }
+{
+    let entries = table.entries;
+    if !each_ok(config, table.clock, entries) {
+        return false;
+    }
+    if digest::apart(tags(entries)) {
+        return true;
+    }
+    all_distinct(entries)
+}
+
+// ---- Expiry
+
+fn age(touched: u64, time: u64) -> u64
+    ensures { λ r. ⌜ r ≡ time - touched ⌝ }
+{
+    if touched <= time { time - touched } else { 0 }
+}
+
+fn is_live(used: bool, touched: u64, lifetime: u64, time: u64) -> bool
+    ensures { λ r. ⌜ r ≡ (used && ltb (time - touched) lifetime) ⌝ }
+{
+    used & (age(touched, time) < lifetime)
+}
+
+fn empty_state() -> BlockState
+    ensures { λ r. ⌜ r ≡ nothing ⌝ }
+{
+    BlockState {
+        assembled: Assembled {
+            len: 0,
+            exponent: 0,
+        },
+        cached: Cached {
+            held: false,
+            head: 0,
+            payload: 0,
+        },
+        recorded: Recorded {
+            given: false,
+            more: false,
+            exponent: 0,
+            num: 0,
+        },
+    }
+}
+
+fn free_entry() -> Entry
+    ensures { λ r. ⌜ r ≡ free ⌝ }
+{
+    let state = empty_state();
+    Entry {
+        key: Key {
+            bytes: [0u8; 64],
+            len: 0,
+        },
+        used: false,
+        touched: 0,
+        state: state,
+    }
+}
+
+pub fn sweep_row(entries: [Entry; 16], lifetime: u64, time: u64) -> [Entry; 16]
+    ensures { λ r. ⌜ r ≡ sweep lifetime time entries ⌝ }
+{
+    let mut row = entries;
+    let mut i = 0;
+    while i < 16 {
+        if !is_live(row[i].used, row[i].touched, lifetime, time) {
+            row[i] = free_entry();
+        }
+        i += 1;
+    }
+    row
+}
+
+// ---- The place of a key
+
+fn find_key(entries: [Entry; 16], lifetime: u64, time: u64, key: &[u8]) -> usize
+    ensures { λ r. ⌜ r ≡ find (holdsLive lifetime time (now (key .entry))) entries ⌝ }
+{
+    let mut i = 0;
+    while i < 16 {
+        if is_live(entries[i].used, entries[i].touched, lifetime, time) {
+            let e = entries[i];
+            let stored = e.key;
+            let bytes = stored.bytes;
+            if same_key(key, bytes, size(stored.len)) {
+                return i;
+            }
+        }
+        i += 1;
+    }
+    16
+}
+
+fn find_free(entries: [Entry; 16], lifetime: u64, time: u64) -> usize
+    ensures { λ r. ⌜ r ≡ find (notLive lifetime time) entries ⌝ }
+{
+    let mut at = 0;
+    while at < 16 {
+        if !is_live(entries[at].used, entries[at].touched, lifetime, time) {
+            return at;
+        }
+        at += 1;
+    }
+    16
+}
+
+// The place of the key in the row that a sweep leaves, which is not made for it; 16 if there is none.
+pub fn place_of(entries: [Entry; 16], lifetime: u64, time: u64, key: &[u8]) -> usize
+    ensures { λ r. ⌜ r ≡ place (now (key .entry)) (sweep lifetime time entries) ⌝ }
+{
+    let i = find_key(entries, lifetime, time, key);
+    if i < 16 {
+        return i;
+    }
+    find_free(entries, lifetime, time)
+}
+
+// The entry that a call starts from, of the one at the key's place in a swept row.
+pub fn start_from(e: Entry, key: &[u8]) -> Entry
+    requires { ⌜ length (now key) ≤ 64 ⌝ }
+    ensures { λ r. ⌜ r ≡ cond (e .used) e (inUse (stored (now (key .entry))) 0 nothing) ⌝ }
+{
+    if e.used {
+        return e;
+    }
+    let k = stored_key(key);
+    let state = empty_state();
+    Entry {
+        key: k,
+        used: true,
+        touched: 0,
+        state: state,
+    }
+}
+
+// The row with this entry in use at i, and the clock recorded. An i of 16 or more changes no entry.
+pub fn put_entry(entries: [Entry; 16], time: u64, i: usize, key: Key, state: BlockState) -> Table
+    ensures { λ r. ⌜ r ≡ record { clock = time; entries = set entries i (inUse key time state) } ⌝ }
+{
+    let mut row = entries;
+    if i < 16 {
+        row[i] = Entry {
+            key: key,
+            used: true,
+            touched: time,
+            state: state,
+        };
+    }
+    Table {
+        clock: time,
+        entries: row,
+    }
+}
+
+pub fn fresh() -> Table
+    ensures { λ r. ⌜ r ≡ freshTable ⌝ }
+{
+    let e = free_entry();
+    Table {
+        clock: 0,
+        entries: [e; 16],
+    }
 }

@@ -1,0 +1,49 @@
+use mathlib.Core.Path.{_≡_, sym}
+use Prim.Native.Nat.{_≤_, _-_, _+_, _*_}
+use native.Mathlib.Omega.{arith}
+use lib.ListN.{length, drop}
+use Rattle.digest.specs.Digest.{pairs}
+use Rattle.digest.proofs.Counts.{pairs-go, pairs-end}
+use borrow.Author.Needs.{needs}
+use Rattle.digest.proofs.apart.Statement.{statement}
+use Rattle.digest.proofs.apart.Tie as tie
+
+abbrev Inv-loop : tie.InvT-loop
+Inv-loop row n₀ i₀ n i = (length row ≡ 16) × ((i ≤ 16) × ((n ≤ 16 * i) × (n + pairs (drop i row) row ≡ pairs row row)))
+
+abbrev μ-loop : tie.MeasureT-loop
+μ-loop row n₀ i₀ n i = 16 - i
+
+loop-holds : tie.Need-loop-holds Inv-loop μ-loop
+loop-holds c = (search needs, (search needs, (search needs, omega arith)))
+
+mul-d : tie.Need-mul-d Inv-loop μ-loop
+mul-d c = search needs
+
+array-read-d : tie.Need-array-read-d Inv-loop μ-loop
+array-read-d c = search needs
+
+count-requires : tie.Need-count-requires Inv-loop μ-loop
+count-requires c κs = search needs
+
+add-n : tie.Need-add-n Inv-loop μ-loop
+add-n c = search needs
+
+add-i : tie.Need-add-i Inv-loop μ-loop
+add-i c = search needs
+
+loop-less : tie.Need-loop-less Inv-loop μ-loop
+loop-less c = search needs
+
+loop-again : tie.Need-loop-again Inv-loop μ-loop
+loop-again c =
+    let l = c .before .before in
+    (search needs, (search needs, (search needs, pairs-go (l .before .args .t1) (l .before .args .t1) (l .loop .i) (l .loop .n) _ _ (search needs) (c .count .ensures .0) (l .loop .inv .1 .1 .1))))
+
+returns : tie.Need-returns Inv-loop μ-loop
+returns c =
+    let l = c .before in
+    rw (sym (pairs-end (l .before .args .t1) (l .before .args .t1) (l .loop .i) (l .loop .n) _ (omega arith) (l .loop .inv .1 .1 .1)))
+
+pub apart-spec : {M : Type 1} → statement M
+apart-spec = tie.close (tie.spec Inv-loop μ-loop loop-holds mul-d array-read-d count-requires add-n add-i loop-less loop-again returns)

@@ -1,0 +1,49 @@
+use mathlib.Core.Path.{_≡_}
+use Prim.Native.Nat.{_≤_, _-_, _+_}
+use native.Mathlib.Omega.{arith}
+use lib.ListN.{length, drop}
+use Rattle.digest.specs.Digest.{times}
+use Rattle.digest.proofs.Counts.{times-go, times-end}
+use borrow.Author.Needs.{needs}
+use Rattle.digest.proofs.count.Statement.{statement}
+use Rattle.digest.proofs.count.Tie as tie
+
+abbrev Inv-loop : tie.InvT-loop
+Inv-loop d row n₀ i₀ n i = (length row ≡ 16) × ((i ≤ 16) × ((n ≤ i) × (n + times d (drop i row) ≡ times d row)))
+
+abbrev μ-loop : tie.MeasureT-loop
+μ-loop d row n₀ i₀ n i = 16 - i
+
+loop-holds : tie.Need-loop-holds Inv-loop μ-loop
+loop-holds c = (search needs, (search needs, (search needs, omega arith)))
+
+mul-one : tie.Need-mul-one Inv-loop μ-loop
+mul-one c = search needs
+
+array-read-one : tie.Need-array-read-one Inv-loop μ-loop
+array-read-one c = search needs
+
+one-requires : tie.Need-one-requires Inv-loop μ-loop
+one-requires c κs = search needs
+
+add-n : tie.Need-add-n Inv-loop μ-loop
+add-n c = search needs
+
+add-i : tie.Need-add-i Inv-loop μ-loop
+add-i c = search needs
+
+loop-less : tie.Need-loop-less Inv-loop μ-loop
+loop-less c = search needs
+
+loop-again : tie.Need-loop-again Inv-loop μ-loop
+loop-again c =
+    let l = c .before .before in
+    (search needs, (search needs, (search needs, times-go (l .before .args .d) (l .before .args .t2) (l .loop .i) (l .loop .n) _ _ (search needs) (c .one .ensures .0) (l .loop .inv .1 .1 .1))))
+
+returns : tie.Need-returns Inv-loop μ-loop
+returns c =
+    let l = c .before in
+    (times-end (l .before .args .d) (l .before .args .t2) (l .loop .i) (l .loop .n) _ (omega arith) (l .loop .inv .1 .1 .1), search needs)
+
+pub count-spec : {M : Type 1} → statement M
+count-spec = tie.close (tie.spec Inv-loop μ-loop loop-holds mul-one array-read-one one-requires add-n add-i loop-less loop-again returns)
