@@ -9,7 +9,7 @@ use Rattle.block_state.specs.declared.Config.{Config}
 use Rattle.block_state.specs.declared.BlockState.{BlockState}
 use Rattle.block_state.specs.declared.Answer.{Answer}
 use Rattle.block_state.specs.declared.Answer.the-variants.{Refused}
-use Rattle.block_state.specs.Message.{Request, Response, What, request, response}
+use Rattle.block_state.specs.Message.{What, request, response}
 use Rattle.block_state.specs.Step.{Left, stepRequest, stepResponse}
 use Rattle.block_table.specs.declared.Key.{Key}
 use Rattle.block_table.specs.declared.Entry.{Entry}

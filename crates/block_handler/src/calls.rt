@@ -1,10 +1,10 @@
 // The two calls.
+use crate::Outcome;
+use crate::Verdict;
+use crate::judge;
 use block_state::Answer;
 use block_state::Config;
 use block_table::Table;
-use crate::judge;
-use crate::Outcome;
-use crate::Verdict;
 ghost use mathlib.Core.Path.{_≡_};
 ghost use mathlib.Core.List.{List};
 ghost use Prim.Native.Nat.{ℕ};
@@ -138,7 +138,19 @@ pub fn intercept_request<'a>(
     match judge::judge(config, table, u, v, time, key, bare, payload.len(), 0) {
         Verdict::Refused(n) => refused(table, n),
         Verdict::Place(i) => request_at(
-            config, table, upload, v, time, key, i, bare, given1, block1, given2, block2, payload,
+            config,
+            table,
+            upload,
+            v,
+            time,
+            key,
+            i,
+            bare,
+            given1,
+            block1,
+            given2,
+            block2,
+            payload,
         ),
     }
 }
@@ -164,7 +176,17 @@ pub fn intercept_response<'a>(
     match judge::judge(config, table, u, v, time, key, bare, payload.len(), h) {
         Verdict::Refused(n) => refused(table, n),
         Verdict::Place(i) => response_at(
-            config, table, response, u, time, key, i, bare, own, head, payload,
+            config,
+            table,
+            response,
+            u,
+            time,
+            key,
+            i,
+            bare,
+            own,
+            head,
+            payload,
         ),
     }
 }

@@ -1,7 +1,7 @@
 // The checks 1, 2 and 3 before a step, and the key's place.
+use crate::Verdict;
 use block_state::Config;
 use block_table::Table;
-use crate::Verdict;
 ghost use mathlib.Core.Path.{_≡_};
 ghost use Prim.Native.Nat.{_≤_};
 ghost use Rattle.block_handler.specs.Call.{between, configOk, memoriesOk};

@@ -8,6 +8,7 @@ ghost use Rattle.block_state.specs.Answers.{said, refusalCode};
 mod calls;
 mod judge;
 mod parts;
+
 pub use calls::intercept_request;
 pub use calls::intercept_response;
 pub use parts::body;
@@ -49,9 +50,13 @@ pub fn default_config(strict: bool, upload: usize, response: usize) -> Config
 
 // A code of class and detail, as CoAP writes it in one byte.
 const CONTINUE: u8 = 95;
+
 const BAD_REQUEST: u8 = 128;
+
 const REQUEST_ENTITY_INCOMPLETE: u8 = 136;
+
 const REQUEST_ENTITY_TOO_LARGE: u8 = 141;
+
 const INTERNAL_SERVER_ERROR: u8 = 160;
 
 fn refusal_code(n: u8) -> u8

@@ -6,6 +6,7 @@ pub mod limits;
 mod request;
 mod response;
 mod state;
+
 pub use request::step_request;
 pub use response::step_response;
 

@@ -321,7 +321,7 @@ fn free_entry() -> Entry
 }
 
 pub fn sweep_row(entries: [Entry; 16], lifetime: u64, time: u64) -> [Entry; 16]
-    ensures { λ r. ⌜ r ≡ sweep lifetime time entries ⌝ }
+    ensures { λ r. ⌜ (r ≡ sweep lifetime time entries) × (length r ≡ 16) ⌝ }
 {
     let mut row = entries;
     let mut i = 0;

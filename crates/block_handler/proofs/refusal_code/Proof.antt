@@ -1,4 +1,3 @@
-use mathlib.Core.Bool.{_||_}
 use borrow.Author.Tests.{eq-eqb, ne-eqb}
 use Rattle.block_handler.proofs.refusal_code.Statement.{statement}
 use Rattle.block_handler.proofs.refusal_code.Tie as tie

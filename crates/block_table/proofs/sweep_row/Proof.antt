@@ -68,7 +68,7 @@ unfolding sweep
 returns c =
     let l = c .before in
     let h : length (l .loop .row) ≤ l .loop .i = omega arith in
-    sym (append-nil _) ∙ rw (take-all (l .loop .i) (l .loop .row) h, drop-of-length-le (l .loop .row) h) at (l .loop .inv .1 .1)
+    (sym (append-nil _) ∙ rw (take-all (l .loop .i) (l .loop .row) h, drop-of-length-le (l .loop .row) h) at (l .loop .inv .1 .1), l .loop .inv .0)
 
 pub sweep-row-spec : {M : Type 1} → statement M
 sweep-row-spec =

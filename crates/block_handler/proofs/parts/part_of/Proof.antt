@@ -1,7 +1,3 @@
-use mathlib.Core.Path.{_≡_}
-use native.Mathlib.Omega.{arith}
-use lib.Dec.{leb}
-use borrow.Author.Tests.{le-leb, lt-leb}
 use Rattle.block_handler.proofs.Parted.{part-there, part-backwards, part-past}
 use borrow.Author.Needs.{needs}
 use Rattle.block_handler.proofs.parts.part_of.Statement.{statement}

@@ -1,0 +1,117 @@
+-- A call by its verdict, and a call at its place as the code makes it. Assumes nothing.
+use Prim.Native.Nat.{ℕ, zero, suc, _+_, _-_, _*_, _≤_, _<_}
+use mathlib.Core.Path.{_≡_, refl, sym, ap, _∙_}
+use mathlib.Core.Bool.{Bool, true, false, cond, not, _&&_}
+use mathlib.Core.List.{List, [], _∷_, _++_}
+use native.Mathlib.Omega.{arith}
+use lib.ListN.{length, getD, take, drop}
+use lib.Dec.{leb, ltb}
+use Rattle.pieces.specs.Memory.{part, pieceOf, putPiece}
+use Rattle.pieces.proofs.Memory.{patch-lent, length-piece}
+use Rattle.block_state.specs.declared.Config.{Config}
+use Rattle.block_state.specs.declared.BlockState.{BlockState}
+use Rattle.block_state.specs.declared.Answer.{Answer}
+use Rattle.block_state.specs.declared.Answer.the-variants.{Refused}
+use Rattle.block_state.specs.Message.{Request, Response, request, response}
+use Rattle.block_state.specs.State.{nothing}
+use Rattle.block_state.specs.Step.{left, stepRequest, stepResponse}
+use Rattle.block_state.proofs.Tests.{by-cases}
+use Rattle.block_table.specs.declared.Entry.{Entry}
+use Rattle.block_table.specs.declared.Table.{Table}
+use Rattle.block_table.specs.Keys.{stored}
+use Rattle.block_table.specs.Table.{inUse, free, place, at, opened}
+use Rattle.block_table.proofs.Turns.{nil}
+use Rattle.block_handler.specs.declared.Verdict.{Verdict}
+use Rattle.block_handler.specs.declared.Verdict.the-variants as verdict
+use Rattle.block_handler.specs.Call.{World, Call, Done, done, whatOk, withinLimits, tableAfter, requestLeft, responseLeft, callAt, rowOf, call}
+use Rattle.block_handler.specs.Verdict.{messageOk, limitsOk, verdictOf}
+use Rattle.block_handler.specs.Contract.{world}
+
+-- ---- a call by its verdict
+
+abbrev pub judged : Config → World → Call → Verdict → Done
+judged c w q (verdict.Refused n) = done w (Refused n)
+judged c w q (verdict.Place i) = callAt c w (q .time) (rowOf c w q) i (opened (q .key) (rowOf c w q)) (q .what)
+
+module _ (c : Config) (w : World) (q : Call) (bare payload head : ℕ) (same : whatOk (q .what) ≡ messageOk bare payload head) where
+  abbrev verdictHere : Verdict
+  verdictHere = verdictOf c (w .table) (length (w .upload)) (length (w .response)) (q .time) (q .key) bare payload head
+
+  limits-same : withinLimits c w q ≡ limitsOk c (w .table) (length (w .upload)) (length (w .response)) (q .key) bare payload head
+  unfolding withinLimits limitsOk
+  limits-same = rw same
+
+  pub call-judged : call c w q ≡ judged c w q verdictHere
+  unfolding call verdictOf
+  call-judged =
+      by-cases (limitsOk c (w .table) (length (w .upload)) (length (w .response)) (q .key) bare payload head)
+      (λ l. by-cases (ltb (q .time) (w .table .clock))
+      (λ e. rw (limits-same, l, e))
+      (λ e. by-cases (leb 16 (place (q .key) (rowOf c w q))) (λ p. rw (limits-same, l, e, p)) (λ p. rw (limits-same, l, e, p))))
+      (λ l. rw (limits-same, l))
+
+  -- what the code answers, by the verdict that it found
+  pub call-by : (v x : Verdict) → v ≡ verdictHere → v ≡ x → judged c w q x ≡ call c w q
+  call-by v x e f = sym (call-judged ∙ ap (judged c w q) (sym e ∙ f))
+
+-- a request has no head
+pub request-ok : (r : Request) → whatOk (request r) ≡ messageOk (r .bare) (length (r .payload)) 0
+unfolding whatOk messageOk
+request-ok r = sym (and-true _)
+  where
+    and-true : (a : Bool) → (a && true) ≡ a
+    and-true true = refl
+    and-true false = refl
+
+pub response-ok : (r : Response) → whatOk (response r) ≡ messageOk (r .bare) (length (r .payload)) (length (r .head))
+unfolding whatOk messageOk
+response-ok r = refl
+
+-- a refusal leaves all as it was
+pub refusal : (w : World) (t : Table) (n : ℕ) (a : Answer) → t ≡ w .table → a ≡ Refused n
+    → done (world t (w .upload) (w .response)) a ≡ done w (Refused n)
+refusal w t n a e f = λ k. done (world (e k) (w .upload) (w .response)) (f k)
+
+-- ---- the entry that a call starts from
+
+-- below the length of a row it does not matter what stands past its end
+pub getD-any : (l : List Entry) (i : ℕ) (d e : Entry) → i < length l → getD l i d ≡ getD l i e
+getD-any [] i d e h = absurd (omega arith)
+getD-any (x ∷ l) zero d e h = refl
+getD-any (x ∷ l) (suc i) d e h = getD-any l i d e (omega arith)
+
+pub opened-at : (key : List ℕ) (row : List Entry) (i : ℕ) → i ≡ place key row → i < length row
+    → cond (getD row i nil .used) (getD row i nil) (inUse (stored key) 0 nothing) ≡ opened key row
+unfolding opened
+opened-at key row i p h = rw (getD-any row i nil free h, p)
+
+-- ---- a piece that was lent
+
+module _ (m : List ℕ) (n i : ℕ) where
+  lent : i * n + n - i * n ≡ n
+  lent = omega arith
+
+  pub lent-piece : take (i * n + n - i * n) (drop (i * n) m) ≡ pieceOf n i m
+  unfolding pieceOf part
+  lent-piece = rw lent
+
+  pub lent-length : i * n + n ≤ length m → length (take (i * n + n - i * n) (drop (i * n) m)) ≡ n
+  lent-length h = ap length lent-piece ∙ length-piece n m i h
+
+  pub lent-back : (p : List ℕ) → length p ≡ n → take (i * n) m ++ (p ++ drop (i * n + n - i * n) (drop (i * n) m)) ≡ putPiece n i p m
+  unfolding putPiece
+  lent-back p h = rw lent (patch-lent m (i * n) n p h)
+
+-- ---- a call at its place, as the code makes it
+
+module _ (c : Config) (t : Table) (u d : List ℕ) (time : ℕ) (row : List Entry) (i : ℕ) (e : Entry) (t′ : Table) (s : BlockState) (p m : List ℕ) (a : Answer)
+    (et : t′ ≡ tableAfter row time i (e .key) s) where
+  pub request-left : (r : Request) → left s p a ≡ stepRequest c (i * c .upload) (i * c .response) (e .state) (pieceOf (c .upload) i u) r
+      → m ≡ putPiece (c .upload) i p u → done (world t′ m d) a ≡ callAt c (world t u d) time row i e (request r)
+  unfolding callAt
+  request-left r es em = (λ k. done (world (et k) (em k) d) a) ∙ ap (requestLeft c (world t u d) time row i (e .key)) es
+
+  pub response-left : (r : Response) → left s p a ≡ stepResponse c (e .state) (pieceOf (c .response) i d) r
+      → m ≡ putPiece (c .response) i p d → done (world t′ u m) a ≡ callAt c (world t u d) time row i e (response r)
+  unfolding callAt
+  response-left r es em = (λ k. done (world (et k) u (em k)) a) ∙ ap (responseLeft c (world t u d) time row i (e .key)) es
