@@ -1,4 +1,4 @@
--- The parts that an answer names: of the message's own payload, of the upload memory, or of the response memory. Never a copy.
+-- The bytes that an answer shows: the message's own payload, or a part of a lent memory. Never a copy.
 use Prim.Native.Nat.{ℕ, _-_}
 use mathlib.Core.Bool.{cond, _&&_}
 use mathlib.Core.List.{List, []}
@@ -8,54 +8,45 @@ use Rattle.pieces.specs.Memory.{part}
 use Rattle.block_state.specs.declared.Part.{Part}
 use Rattle.block_state.specs.declared.Answer.{Answer}
 use Rattle.block_state.specs.declared.Answer.the-variants.{Continue, TooLarge, Handed, Pass, Served, Plain, Whole, First, Refused}
+use Rattle.block_handler.specs.declared.Source.{Source}
+use Rattle.block_handler.specs.declared.Source.the-variants.{Nothing, Message, Memory}
+use Rattle.block_handler.specs.declared.Shows.{Shows}
+
+-- The body, the cached head, the cached chunk, and what a response sends of its own payload.
+abbrev pub shows : Source → Source → Source → Source → Shows
+shows body head chunk sent = record { body = body; head = head; chunk = chunk; sent = sent }
+
+-- "The body the application sees is a part of the message's own payload or of the upload memory. .. A served chunk is a part of the cached
+-- response's memory." "The chunk [of First and Whole] is a part of the response's own payload."
+abbrev pub shownBy : Answer → Shows
+shownBy (Continue b) = shows Nothing Nothing Nothing Nothing
+shownBy (TooLarge b) = shows Nothing Nothing Nothing Nothing
+shownBy (Handed b body) = shows (Memory body) Nothing Nothing Nothing
+shownBy Pass = shows Message Nothing Nothing Nothing
+shownBy (Served block1 b head chunk) = shows Nothing (Memory head) (Memory chunk) Nothing
+shownBy Plain = shows Nothing Nothing Nothing Message
+shownBy (Whole b chunk) = shows Nothing Nothing Nothing (Memory chunk)
+shownBy (First b chunk) = shows Nothing Nothing Nothing (Memory chunk)
+shownBy (Refused n) = shows Nothing Nothing Nothing Nothing
 
 -- "An empty part if the answer .. names a part that isn't there."
 unfoldable pub partOf : List ℕ → Part → List ℕ
 partOf m p = cond (leb (p .from) (p .to) && leb (p .to) (length m)) (part m (p .from) (p .to - p .from)) []
 
--- The body that the application sees: "a part of the message's own payload or of the upload memory"; "an empty part if the answer has none".
-abbrev pub bodyOf : Answer → List ℕ → List ℕ → List ℕ
-bodyOf Pass payload upload = payload
-bodyOf (Handed b body) payload upload = partOf upload body
-bodyOf (Continue b) payload upload = []
-bodyOf (TooLarge b) payload upload = []
-bodyOf (Served block1 b head chunk) payload upload = []
-bodyOf Plain payload upload = []
-bodyOf (Whole b chunk) payload upload = []
-bodyOf (First b chunk) payload upload = []
-bodyOf (Refused n) payload upload = []
+-- "An empty part if the answer has none."
+abbrev pub bytesOf : Source → List ℕ → List ℕ → List ℕ
+bytesOf Nothing message memory = []
+bytesOf Message message memory = message
+bytesOf (Memory p) message memory = partOf memory p
 
--- "A served chunk is a part of the cached response's memory", and so is its head.
-abbrev pub servedChunk : Answer → List ℕ → List ℕ
-servedChunk (Served block1 b head chunk) response = partOf response chunk
-servedChunk (Continue b) response = []
-servedChunk (TooLarge b) response = []
-servedChunk (Handed b body) response = []
-servedChunk Pass response = []
-servedChunk Plain response = []
-servedChunk (Whole b chunk) response = []
-servedChunk (First b chunk) response = []
-servedChunk (Refused n) response = []
+abbrev pub bodyOf : Answer → List ℕ → List ℕ → List ℕ
+bodyOf a payload upload = bytesOf (shownBy a .body) payload upload
 
 abbrev pub servedHead : Answer → List ℕ → List ℕ
-servedHead (Served block1 b head chunk) response = partOf response head
-servedHead (Continue b) response = []
-servedHead (TooLarge b) response = []
-servedHead (Handed b body) response = []
-servedHead Pass response = []
-servedHead Plain response = []
-servedHead (Whole b chunk) response = []
-servedHead (First b chunk) response = []
-servedHead (Refused n) response = []
+servedHead a response = bytesOf (shownBy a .head) response response
 
--- "The chunk is a part of the response's own payload"; a Plain response sends all of it.
-abbrev pub chunkToSend : Answer → List ℕ → List ℕ
-chunkToSend Plain payload = payload
-chunkToSend (Whole b chunk) payload = partOf payload chunk
-chunkToSend (First b chunk) payload = partOf payload chunk
-chunkToSend (Continue b) payload = []
-chunkToSend (TooLarge b) payload = []
-chunkToSend (Handed b body) payload = []
-chunkToSend Pass payload = []
-chunkToSend (Served block1 b head chunk) payload = []
-chunkToSend (Refused n) payload = []
+abbrev pub servedChunk : Answer → List ℕ → List ℕ
+servedChunk a response = bytesOf (shownBy a .chunk) response response
+
+abbrev pub sentBytes : Answer → List ℕ → List ℕ
+sentBytes a payload = bytesOf (shownBy a .sent) payload payload

@@ -1,6 +1,7 @@
 // The block handler's calls: on a table by value and two lent memories, for any bytes and numbers.
 use block_state::Answer;
 use block_state::Config;
+use block_state::Part;
 use block_table::Table;
 ghost use mathlib.Core.Path.{_≡_};
 ghost use Rattle.block_state.specs.Answers.{said, refusalCode};
@@ -12,7 +13,7 @@ mod parts;
 pub use calls::intercept_request;
 pub use calls::intercept_response;
 pub use parts::body;
-pub use parts::chunk_to_send;
+pub use parts::sent_bytes;
 pub use parts::served_chunk;
 pub use parts::served_head;
 
@@ -21,6 +22,21 @@ pub enum Verdict {
     Refused(u8),
     // The entry's index.
     Place(usize),
+}
+
+// Where bytes that an answer shows stand: in the message, or in a memory that was lent.
+pub enum Source {
+    Nothing,
+    Message,
+    Memory(Part),
+}
+
+// The body, the cached head, the cached chunk, and what a response sends of its own payload.
+pub struct Shows {
+    pub body: Source,
+    pub head: Source,
+    pub chunk: Source,
+    pub sent: Source,
 }
 
 // What a call leaves of the table, and what it answers.

@@ -1,8 +1,38 @@
-// The parts that an answer names, lent and never copied. Each is empty where the answer has none, or names one that isn't there.
+// The bytes that an answer shows, lent and never copied: empty where the answer has none, or names a part that isn't there.
 use block_state::Answer;
 use block_state::Part;
+use crate::Shows;
+use crate::Source;
 ghost use mathlib.Core.Path.{_≡_};
-ghost use Rattle.block_handler.specs.Parts.{partOf, bodyOf, servedChunk, servedHead, chunkToSend};
+ghost use Rattle.block_handler.specs.Parts.{shows, shownBy, partOf, bytesOf, bodyOf, servedHead, servedChunk, sentBytes};
+
+fn shown(body: Source, head: Source, chunk: Source, sent: Source) -> Shows
+    ensures { λ r. ⌜ r ≡ shows body head chunk sent ⌝ }
+{
+    Shows {
+        body,
+        head,
+        chunk,
+        sent,
+    }
+}
+
+fn shown_by(answer: Answer) -> Shows
+    ensures { λ r. ⌜ r ≡ shownBy answer ⌝ }
+{
+    let no = Source::Nothing;
+    match answer {
+        Answer::Continue(_) => shown(no, no, no, no),
+        Answer::TooLarge(_) => shown(no, no, no, no),
+        Answer::Handed(_, body) => shown(Source::Memory(body), no, no, no),
+        Answer::Pass => shown(Source::Message, no, no, no),
+        Answer::Served(_, _, head, chunk) => shown(no, Source::Memory(head), Source::Memory(chunk), no),
+        Answer::Plain => shown(no, no, no, Source::Message),
+        Answer::Whole(_, chunk) => shown(no, no, no, Source::Memory(chunk)),
+        Answer::First(_, chunk) => shown(no, no, no, Source::Memory(chunk)),
+        Answer::Refused(_) => shown(no, no, no, no),
+    }
+}
 
 fn part_of(memory: &[u8], part: Part) -> &[u8]
     ensures { λ r. ⌜ now r ≡ partOf (now (memory .entry)) part ⌝ }
@@ -18,70 +48,48 @@ fn part_of(memory: &[u8], part: Part) -> &[u8]
     &memory[from..to]
 }
 
+fn bytes_of<'a>(source: Source, message: &'a [u8], memory: &'a [u8]) -> &'a [u8]
+    ensures { λ r. ⌜ now r ≡ bytesOf source (now (message .entry)) (now (memory .entry)) ⌝ }
+{
+    match source {
+        Source::Nothing => &message[0..0],
+        Source::Message => message,
+        Source::Memory(part) => part_of(memory, part),
+    }
+}
+
 // The body that the application sees, of the message's own payload or of the upload memory as the call left it.
 pub fn body<'a>(answer: Answer, payload: &'a [u8], upload: &'a [u8]) -> &'a [u8]
     ensures { λ r. ⌜ now r ≡ bodyOf answer (now (payload .entry)) (now (upload .entry)) ⌝ }
 {
-    match answer {
-        Answer::Pass => payload,
-        Answer::Handed(_, part) => part_of(upload, part),
-        Answer::Continue(_) => &payload[0..0],
-        Answer::TooLarge(_) => &payload[0..0],
-        Answer::Served(_, _, _, _) => &payload[0..0],
-        Answer::Plain => &payload[0..0],
-        Answer::Whole(_, _) => &payload[0..0],
-        Answer::First(_, _) => &payload[0..0],
-        Answer::Refused(_) => &payload[0..0],
-    }
+    let by = shown_by(answer);
+    let source = by.body;
+    bytes_of(source, payload, upload)
+}
+
+// The head of the cached response that a Served answer goes out under, of the response memory.
+pub fn served_head(answer: Answer, response: &[u8]) -> &[u8]
+    ensures { λ r. ⌜ now r ≡ servedHead answer (now (response .entry)) ⌝ }
+{
+    let by = shown_by(answer);
+    let source = by.head;
+    bytes_of(source, response, response)
 }
 
 // The chunk of a Served answer, of the response memory.
 pub fn served_chunk(answer: Answer, response: &[u8]) -> &[u8]
     ensures { λ r. ⌜ now r ≡ servedChunk answer (now (response .entry)) ⌝ }
 {
-    match answer {
-        Answer::Served(_, _, _, chunk) => part_of(response, chunk),
-        Answer::Continue(_) => &response[0..0],
-        Answer::TooLarge(_) => &response[0..0],
-        Answer::Handed(_, _) => &response[0..0],
-        Answer::Pass => &response[0..0],
-        Answer::Plain => &response[0..0],
-        Answer::Whole(_, _) => &response[0..0],
-        Answer::First(_, _) => &response[0..0],
-        Answer::Refused(_) => &response[0..0],
-    }
+    let by = shown_by(answer);
+    let source = by.chunk;
+    bytes_of(source, response, response)
 }
 
-// The head of the cached response that a Served answer goes out under.
-pub fn served_head(answer: Answer, response: &[u8]) -> &[u8]
-    ensures { λ r. ⌜ now r ≡ servedHead answer (now (response .entry)) ⌝ }
+// What a response sends of its own payload: all of it after Plain, the chunk after First and Whole.
+pub fn sent_bytes(answer: Answer, payload: &[u8]) -> &[u8]
+    ensures { λ r. ⌜ now r ≡ sentBytes answer (now (payload .entry)) ⌝ }
 {
-    match answer {
-        Answer::Served(_, _, head, _) => part_of(response, head),
-        Answer::Continue(_) => &response[0..0],
-        Answer::TooLarge(_) => &response[0..0],
-        Answer::Handed(_, _) => &response[0..0],
-        Answer::Pass => &response[0..0],
-        Answer::Plain => &response[0..0],
-        Answer::Whole(_, _) => &response[0..0],
-        Answer::First(_, _) => &response[0..0],
-        Answer::Refused(_) => &response[0..0],
-    }
-}
-
-// What a response sends of its own payload: all of it, or the chunk of First and Whole.
-pub fn chunk_to_send(answer: Answer, payload: &[u8]) -> &[u8]
-    ensures { λ r. ⌜ now r ≡ chunkToSend answer (now (payload .entry)) ⌝ }
-{
-    match answer {
-        Answer::Plain => payload,
-        Answer::Whole(_, chunk) => part_of(payload, chunk),
-        Answer::First(_, chunk) => part_of(payload, chunk),
-        Answer::Continue(_) => &payload[0..0],
-        Answer::TooLarge(_) => &payload[0..0],
-        Answer::Handed(_, _) => &payload[0..0],
-        Answer::Pass => &payload[0..0],
-        Answer::Served(_, _, _, _) => &payload[0..0],
-        Answer::Refused(_) => &payload[0..0],
-    }
+    let by = shown_by(answer);
+    let source = by.sent;
+    bytes_of(source, payload, payload)
 }
