@@ -1,8 +1,8 @@
 // The bytes that an answer shows, lent and never copied: empty where the answer has none, or names a part that isn't there.
-use block_state::Answer;
-use block_state::Part;
 use crate::Shows;
 use crate::Source;
+use block_state::Answer;
+use block_state::Part;
 ghost use mathlib.Core.Path.{_≡_};
 ghost use Rattle.block_handler.specs.Parts.{shows, shownBy, partOf, bytesOf, bodyOf, servedHead, servedChunk, sentBytes};
 
@@ -26,7 +26,12 @@ fn shown_by(answer: Answer) -> Shows
         Answer::TooLarge(_) => shown(no, no, no, no),
         Answer::Handed(_, body) => shown(Source::Memory(body), no, no, no),
         Answer::Pass => shown(Source::Message, no, no, no),
-        Answer::Served(_, _, head, chunk) => shown(no, Source::Memory(head), Source::Memory(chunk), no),
+        Answer::Served(_, _, head, chunk) => shown(
+            no,
+            Source::Memory(head),
+            Source::Memory(chunk),
+            no,
+        ),
         Answer::Plain => shown(no, no, no, Source::Message),
         Answer::Whole(_, chunk) => shown(no, no, no, Source::Memory(chunk)),
         Answer::First(_, chunk) => shown(no, no, no, Source::Memory(chunk)),

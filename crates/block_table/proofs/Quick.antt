@@ -20,7 +20,8 @@ use Rattle.block_table.specs.Lists.{all}
 use Rattle.block_table.specs.Keys.{same, keyOf, storedOk}
 use Rattle.block_table.specs.Table.{holds, entryOk, clash, distinct, tableOk}
 use Rattle.block_table.specs.Quick.{tagOf, tagsFrom, alone}
-use Rattle.block_table.proofs.Turns.{and-left, and-right, drop-step}
+use Rattle.block_table.proofs.Turns.{drop-step}
+use Rattle.block_state.proofs.Tests.{and-left, and-right}
 
 -- ---- a clash
 

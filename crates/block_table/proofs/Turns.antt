@@ -15,6 +15,7 @@ use Rattle.block_table.specs.declared.Entry.{Entry}
 use Rattle.block_table.specs.Lists.{find, all}
 use Rattle.block_table.specs.Keys.{same, keyOf}
 use Rattle.block_table.specs.Table.{free, holds, live, swept, sweep, unused, place}
+use Rattle.block_table.proofs.Entries.{live-used}
 use Rattle.block_table.specs.Quick.{holdsLive, notLive}
 
 -- What an index past the end of a row reads, as Rattle has it. Below the length it does not matter.
@@ -49,16 +50,6 @@ module _ {A : Type 0} where
     find-end n h was =
         let f : find p (drop i l) ≡ 0 = rw (drop-of-length-le l h) in
         omega arith
-
-pub and-left : (a b : Bool) → (a && b) ≡ true → a ≡ true
-and-left true b e = refl
-and-left false true e = e
-and-left false false e = e
-
-pub and-right : (a b : Bool) → (a && b) ≡ true → b ≡ true
-and-right true b e = e
-and-right false true e = refl
-and-right false false e = e
 
 -- ---- keys
 
@@ -131,14 +122,6 @@ module _ (lifetime time : ℕ) (e : Entry) where
   unfolding live
   live-as b h = sym h
 
-  pub swept-live : live lifetime time e ≡ true → swept lifetime time e ≡ e
-  unfolding swept
-  swept-live h = rw h
-
-  pub swept-free : live lifetime time e ≡ false → swept lifetime time e ≡ free
-  unfolding swept
-  swept-free h = rw h
-
 module _ (lifetime time : ℕ) (k : List ℕ) (e : Entry) where
   pub held-expired : live lifetime time e ≡ false → holdsLive lifetime time k e ≡ false
   unfolding holdsLive
@@ -161,10 +144,6 @@ module _ (f : Entry → Entry) (row : List Entry) (i : ℕ) (h : i < length row)
 find-swept : (p q : Entry → Bool) (lifetime time : ℕ) → ((e : Entry) → p (swept lifetime time e) ≡ q e) → (l : List Entry) → find p (map (swept lifetime time) l) ≡ find q l
 find-swept p q lifetime time is [] = refl
 find-swept p q lifetime time is (e ∷ rest) = rw (is e, find-swept p q lifetime time is rest)
-
-live-used : (lifetime time : ℕ) (e : Entry) → live lifetime time e ≡ true → e .used ≡ true
-unfolding live
-live-used lifetime time e h = and-left (e .used) (ltb (time - e .touched) lifetime) h
 
 held-by : (k : List ℕ) (e : Entry) (b : Bool) → (b ≡ true → e .used ≡ true) → holds k (cond b e free) ≡ (b && same k (keyOf (e .key)))
 unfolding holds

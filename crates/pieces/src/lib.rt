@@ -129,13 +129,14 @@ pub fn extending_splice(
     if reach - size < at {
         return Splice::Refused(6);
     }
+    let p = payload.len();
     let kept = larger(len, at + size) - size;
     if piece.len() < kept {
         return Splice::Refused(7);
     }
-    if piece.len() - kept < payload.len() {
+    if piece.len() - kept < p {
         return Splice::Refused(7);
     }
     replace(piece, len, at, size, payload);
-    Splice::Body(kept + payload.len())
+    Splice::Body(kept + p)
 }

@@ -7,7 +7,8 @@ use lib.ListN.{length, drop, take, length-set, drop-of-length-le}
 use lib.Seq.{take-all}
 use borrow.Author.Tests.{not-true, not-false}
 use Rattle.block_table.specs.Table.{swept, sweep}
-use Rattle.block_table.proofs.Turns.{live-as, swept-live, swept-free, map-set, map-keep}
+use Rattle.block_table.proofs.Turns.{live-as, map-set, map-keep}
+use Rattle.block_table.proofs.Entries.{swept-live, swept-dead}
 use borrow.Author.Needs.{needs}
 use Rattle.block_table.proofs.sweep_row.Statement.{statement}
 use Rattle.block_table.proofs.sweep_row.Tie as tie
@@ -56,7 +57,7 @@ loop-again c =
     let l = c .before .before .before in
     let f = swept (l .before .args .lifetime) (l .before .args .time) in
     ⊎-elim (λ w.
-    let gone = swept-free _ _ _ (live-as _ _ _ _ (sym (not-true _ (w .0 .taken)) ∙ c .before .is-live .ensures)) in
+    let gone = swept-dead _ _ _ (live-as _ _ _ _ (sym (not-true _ (w .0 .taken)) ∙ c .before .is-live .ensures)) in
     let go = map-set f (l .loop .row) (l .loop .i) (search needs) (w .1 .result) (gone ∙ sym (w .1 .ensures)) in
     rw (w .2) (simp length-set (l .loop .inv .0), (search needs, go ∙ l .loop .inv .1 .1))) (λ w.
     let kept = swept-live _ _ _ (live-as _ _ _ _ (sym (not-false _ (w .0 .left)) ∙ c .before .is-live .ensures)) in

@@ -5,7 +5,7 @@ use lib.Dec.{leb}
 use borrow.Author.Tests.{leb-true}
 use Rattle.block_table.specs.Keys.{keyOf}
 use Rattle.block_table.specs.Quick.{tagOf}
-use Rattle.block_table.proofs.Turns.{and-right}
+use Rattle.block_state.proofs.Tests.{and-right}
 use borrow.Author.Needs.{needs}
 use Rattle.block_table.proofs.tag.Statement.{statement}
 use Rattle.block_table.proofs.tag.Tie as tie

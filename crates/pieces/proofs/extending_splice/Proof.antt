@@ -36,8 +36,8 @@ returns-4 c = (sym (too-small _ _ _ _ _ (omega arith) (omega arith)), refl)
 replace-requires : tie.Need-replace-requires
 replace-requires c κs = search needs
 
-add-t9 : tie.Need-add-t9
-add-t9 c = search needs
+add-t11 : tie.Need-add-t11
+add-t11 c = search needs
 
 same-length : tie.Need-same-length
 same-length c = search needs
@@ -59,6 +59,6 @@ extending-splice-spec =
     sub-if4
     returns-4
     replace-requires
-    add-t9
+    add-t11
     same-length
     returns-5)
