@@ -1,16 +1,19 @@
 -- The laws of the steps, a law for each branch: what the code's answers come to. Assumes nothing.
-use Prim.Native.Nat.{ℕ, _+_, _≤_, _<_}
-use mathlib.Core.Path.{_≡_, ap, _∙_}
-use mathlib.Core.Bool.{true, false, _&&_}
+use Prim.Native.Nat.{ℕ, _+_, _-_, _≤_, _<_}
+use mathlib.Core.Path.{_≡_, refl, ap, _∙_}
+use mathlib.Core.Bool.{Bool, true, false, cond, not, _&&_}
 use mathlib.Core.List.{List, _++_}
+use native.Mathlib.Omega.{arith}
 use lib.ListN.{length}
-use borrow.Author.Tests.{lt-ltb, le-ltb}
+use lib.Dec.{eqb}
+use borrow.Author.Tests.{lt-ltb, le-ltb, eqb-true, not-false}
 use Rattle.pieces.specs.Memory.{patch}
 use Rattle.pieces.specs.Splice.{spliceOf, pieceAfter}
 use Rattle.pieces.specs.declared.Splice.{Splice}
 use Rattle.pieces.specs.declared.Splice.the-variants as splice
 use Rattle.block_value.specs.Value.{blockSize, blockStart}
 use Rattle.block_value.specs.declared.BlockValue.{BlockValue}
+use Rattle.block_value.proofs.Laws.{size-most}
 use Rattle.negotiation.specs.Negotiation.{requestBlock, negotiated}
 use Rattle.negotiation.specs.Chunk.{chunkOf}
 use Rattle.negotiation.specs.declared.MaybeBlock.{MaybeBlock}
@@ -20,10 +23,12 @@ use Rattle.negotiation.specs.declared.Negotiated.the-variants as agreed
 use Rattle.negotiation.specs.declared.Chunk.{Chunk}
 use Rattle.negotiation.specs.declared.Chunk.the-variants as chunk
 use Rattle.block_state.specs.declared.Config.{Config}
+use Rattle.block_state.specs.declared.Assembled.{Assembled}
 use Rattle.block_state.specs.declared.BlockState.{BlockState}
 use Rattle.block_state.specs.declared.Stepped.{Stepped}
 use Rattle.block_state.specs.declared.Answer.{Answer}
 use Rattle.block_state.specs.declared.Answer.the-variants.{Continue, TooLarge, Handed, Pass, Served, Plain, Whole, First, Refused}
+use Rattle.block_state.proofs.Tests.{and-left}
 use Rattle.block_state.specs.Message.{Request, Response}
 use Rattle.block_state.specs.State.{assembly, caching, keptWhile, recordedBlock, withAssembled, withCached, withRecorded}
 use Rattle.block_state.specs.Step.{left, stepped, bytesFrom, badForm, notNext, lengthMet, served, onward, taken, spliced, block1Given, onNegotiated, stepRequest, chunked, onReply, stepResponse}
@@ -159,3 +164,18 @@ module _ (c : Config) (s : BlockState) (d : List ℕ) (r : Response) where
     pub response-chunk : (b : BlockValue) → reply ≡ agreed.Block b → stepResponse c s d r ≡ chunked c s d (r .head) (r .payload) (chunkOf b (length (r .payload)))
     unfolding onReply
     response-chunk b h = replies ∙ rw h
+
+-- ---- refusal 6 is plain mode's alone: strict mode's next block ends at most 2,048 past what is assembled
+
+pub strict-is-near : (a : Assembled) (b : BlockValue) → notNext a b ≡ false → blockStart b + blockSize b - lengthMet true a b ≤ 16384
+unfolding notNext lengthMet
+strict-is-near a b next = go (eqb (b .num) 0) refl next
+  where
+    go : (z : Bool) → eqb (b .num) 0 ≡ z → (not z && not (eqb (blockStart b) (a .len) && eqb (b .«size_exponent») (a .exponent))) ≡ false
+        → blockStart b + blockSize b - cond (true && z) 0 (a .len) ≤ 16384
+    go true e n =
+        let start : blockStart b ≡ 0 = rw (eqb-true (b .num) 0 e) (omega arith) in
+        omega (arith, size-most (b .«size_exponent»))
+    go false e n =
+        let both = not-false _ n in
+        omega (arith, size-most (b .«size_exponent»), eqb-true (blockStart b) (a .len) (and-left _ _ both))
