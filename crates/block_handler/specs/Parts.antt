@@ -9,7 +9,7 @@ use Rattle.block_state.specs.declared.Part.{Part}
 use Rattle.block_state.specs.declared.Answer.{Answer}
 use Rattle.block_state.specs.declared.Answer.the-variants.{Continue, TooLarge, Handed, Pass, Served, Plain, Whole, First, Refused}
 use Rattle.block_handler.specs.declared.Source.{Source}
-use Rattle.block_handler.specs.declared.Source.the-variants.{Nothing, Message, Memory}
+use Rattle.block_handler.specs.declared.Source.the-variants.{Nothing, Message, Within}
 use Rattle.block_handler.specs.declared.Shows.{Shows}
 
 -- The body, the cached head, the cached chunk, and what a response sends of its own payload.
@@ -21,12 +21,12 @@ shows body head chunk sent = record { body = body; head = head; chunk = chunk; s
 abbrev pub shownBy : Answer → Shows
 shownBy (Continue b) = shows Nothing Nothing Nothing Nothing
 shownBy (TooLarge b) = shows Nothing Nothing Nothing Nothing
-shownBy (Handed b body) = shows (Memory body) Nothing Nothing Nothing
+shownBy (Handed b body) = shows (Within body) Nothing Nothing Nothing
 shownBy Pass = shows Message Nothing Nothing Nothing
-shownBy (Served block1 b head chunk) = shows Nothing (Memory head) (Memory chunk) Nothing
+shownBy (Served block1 b head chunk) = shows Nothing (Within head) (Within chunk) Nothing
 shownBy Plain = shows Nothing Nothing Nothing Message
-shownBy (Whole b chunk) = shows Nothing Nothing Nothing (Memory chunk)
-shownBy (First b chunk) = shows Nothing Nothing Nothing (Memory chunk)
+shownBy (Whole b chunk) = shows Nothing Nothing Nothing (Within chunk)
+shownBy (First b chunk) = shows Nothing Nothing Nothing (Within chunk)
 shownBy (Refused n) = shows Nothing Nothing Nothing Nothing
 
 -- "An empty part if the answer .. names a part that isn't there."
@@ -37,7 +37,7 @@ partOf m p = cond (leb (p .from) (p .to) && leb (p .to) (length m)) (part m (p .
 abbrev pub bytesOf : Source → List ℕ → List ℕ → List ℕ
 bytesOf Nothing message memory = []
 bytesOf Message message memory = message
-bytesOf (Memory p) message memory = partOf memory p
+bytesOf (Within p) message memory = partOf memory p
 
 abbrev pub bodyOf : Answer → List ℕ → List ℕ → List ℕ
 bodyOf a payload upload = bytesOf (shownBy a .body) payload upload

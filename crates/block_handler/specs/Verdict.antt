@@ -1,4 +1,4 @@
--- How the code judges a call before it takes its step: by numbers alone, the same for requests and responses.
+-- How the code judges a call before it takes its step: by numbers alone, the same for requests and responses. No public contract cites this.
 use Prim.Native.Nat.{ℕ}
 use mathlib.Core.Bool.{Bool, cond, not, _&&_}
 use mathlib.Core.List.{List}

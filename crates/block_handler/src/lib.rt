@@ -24,11 +24,11 @@ pub enum Verdict {
     Place(usize),
 }
 
-// Where bytes that an answer shows stand: in the message, or in a memory that was lent.
+// Where bytes that an answer shows stand: the whole of the message's payload, or within the memory or payload that they are a part of.
 pub enum Source {
     Nothing,
     Message,
-    Memory(Part),
+    Within(Part),
 }
 
 // The body, the cached head, the cached chunk, and what a response sends of its own payload.
@@ -89,7 +89,7 @@ fn refusal_code(n: u8) -> u8
 
 // The response code that belongs to an answer; 0 where the response that goes out has its own.
 pub fn response_code(answer: Answer) -> u8
-    ensures { λ r. ⌜ r ≡ said answer .response ⌝ }
+    ensures { λ r. ⌜ r ≡ said answer .code ⌝ }
 {
     match answer {
         Answer::Continue(_) => CONTINUE,

@@ -24,17 +24,17 @@ fn shown_by(answer: Answer) -> Shows
     match answer {
         Answer::Continue(_) => shown(no, no, no, no),
         Answer::TooLarge(_) => shown(no, no, no, no),
-        Answer::Handed(_, body) => shown(Source::Memory(body), no, no, no),
+        Answer::Handed(_, body) => shown(Source::Within(body), no, no, no),
         Answer::Pass => shown(Source::Message, no, no, no),
         Answer::Served(_, _, head, chunk) => shown(
             no,
-            Source::Memory(head),
-            Source::Memory(chunk),
+            Source::Within(head),
+            Source::Within(chunk),
             no,
         ),
         Answer::Plain => shown(no, no, no, Source::Message),
-        Answer::Whole(_, chunk) => shown(no, no, no, Source::Memory(chunk)),
-        Answer::First(_, chunk) => shown(no, no, no, Source::Memory(chunk)),
+        Answer::Whole(_, chunk) => shown(no, no, no, Source::Within(chunk)),
+        Answer::First(_, chunk) => shown(no, no, no, Source::Within(chunk)),
         Answer::Refused(_) => shown(no, no, no, no),
     }
 }
@@ -59,7 +59,7 @@ fn bytes_of<'a>(source: Source, message: &'a [u8], memory: &'a [u8]) -> &'a [u8]
     match source {
         Source::Nothing => &message[0..0],
         Source::Message => message,
-        Source::Memory(part) => part_of(memory, part),
+        Source::Within(part) => part_of(memory, part),
     }
 }
 

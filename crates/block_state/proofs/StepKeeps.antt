@@ -32,7 +32,7 @@ use Rattle.block_state.specs.declared.Answer.{Answer}
 use Rattle.block_state.specs.declared.Answer.the-variants.{Continue, TooLarge, Handed, Pass, Plain, Whole, Refused}
 use Rattle.block_state.specs.Message.{Request, Response}
 use Rattle.block_state.specs.State.{assembly, recordedBlock, withAssembled, withRecorded}
-use Rattle.block_state.specs.Step.{Left, left, bytesFrom, badForm, notNext, lengthMet, served, onward, taken, spliced, block1Given, onNegotiated, stepRequest, chunked, onReply, stepResponse}
+use Rattle.block_state.specs.Step.{Left, left, bytesFrom, badForm, notNext, lengthMet, served, onward, taken, onSplice, block1Given, onNegotiated, stepRequest, chunked, onReply, stepResponse}
 use Rattle.block_state.proofs.Tests.{on-test}
 use Rattle.block_state.proofs.Fits.{StateFits, assembled-most, assembly-ok, kept-ok, caching-ok, Held, recording-ok}
 
@@ -97,12 +97,12 @@ module _ (c : Config) where
 
   spliced-keeps : (home at : ℕ) (s : BlockState) (u : List ℕ) (block2 : MaybeBlock) (payload : List ℕ) (b reply : BlockValue) (l : ℕ)
       → b .«size_exponent» ≤ 7 → Held 4095 block2 → l ≤ c .upload → StateFits c s → length u ≡ c .upload
-      → Keeps c (c .upload) (spliced home at s u block2 payload b reply l (spliceOf (c .upload) l (blockStart b) (blockSize b) (length payload)))
-  unfolding spliced spliceOf taken
+      → Keeps c (c .upload) (onSplice home at s u block2 payload b reply l (spliceOf (c .upload) l (blockStart b) (blockSize b) (length payload)))
+  unfolding onSplice spliceOf taken
   spliced-keeps home at s u block2 payload b reply l x o m f h =
       let n : ℕ = splicedLength l (blockStart b) (blockSize b) (length payload) in
       let u′ : List ℕ = pieceAfter u l (blockStart b) (blockSize b) payload in
-      let P : Splice → Type 0 = λ g. Keeps c (c .upload) (spliced home at s u block2 payload b reply l g) in
+      let P : Splice → Type 0 = λ g. Keeps c (c .upload) (onSplice home at s u block2 payload b reply l g) in
       on-test P (ltb 16384 (blockStart b + blockSize b - l)) (λ _. as-it-was (c .upload) s u (Refused 6) f h)
       (λ _. on-test P (ltb (c .upload) n) (λ _. as-it-was (c .upload) s u (Refused 7) f h)
       (λ fits.

@@ -31,7 +31,7 @@ use Rattle.block_state.specs.declared.Answer.the-variants.{Continue, Too
 use Rattle.block_state.proofs.Tests.{and-left}
 use Rattle.block_state.specs.Message.{Request, Response}
 use Rattle.block_state.specs.State.{assembly, caching, keptWhile, recordedBlock, withAssembled, withCached, withRecorded}
-use Rattle.block_state.specs.Step.{left, stepped, bytesFrom, badForm, notNext, lengthMet, served, onward, taken, spliced, block1Given, onNegotiated, stepRequest, chunked, onReply, stepResponse}
+use Rattle.block_state.specs.Step.{left, stepped, bytesFrom, badForm, notNext, lengthMet, served, onward, taken, onSplice, block1Given, onNegotiated, stepRequest, chunked, onReply, stepResponse}
 
 -- what the code returns, beside the piece that it leaves
 pub returned : (r : Stepped) (s : BlockState) (u : List ℕ) (a : Answer) → r ≡ stepped s a → left (r .state) u (r .answer) ≡ left s u a
@@ -75,13 +75,13 @@ module _ (home at : ℕ) (s : BlockState) (u : List ℕ) (block2 : MaybeBlock) (
   taken-last h = rw h
 
 module _ (home at : ℕ) (s : BlockState) (u : List ℕ) (block2 : MaybeBlock) (payload : List ℕ) (b reply : BlockValue) (l : ℕ) (sp : Splice) where
-  pub spliced-refused : (n : ℕ) → sp ≡ splice.Refused n → spliced home at s u block2 payload b reply l sp ≡ left s u (Refused n)
-  unfolding spliced
+  pub spliced-refused : (n : ℕ) → sp ≡ splice.Refused n → onSplice home at s u block2 payload b reply l sp ≡ left s u (Refused n)
+  unfolding onSplice
   spliced-refused n e = rw e
 
   pub spliced-body : (n : ℕ) → sp ≡ splice.Body n
-      → spliced home at s u block2 payload b reply l sp ≡ taken home at s (pieceAfter u l (blockStart b) (blockSize b) payload) block2 b reply n
-  unfolding spliced
+      → onSplice home at s u block2 payload b reply l sp ≡ taken home at s (pieceAfter u l (blockStart b) (blockSize b) payload) block2 b reply n
+  unfolding onSplice
   spliced-body n e = rw e
 
 module _ (c : Config) (home at : ℕ) (s : BlockState) (u : List ℕ) (block2 : MaybeBlock) (payload : List ℕ) (b reply : BlockValue) where
@@ -95,7 +95,7 @@ module _ (c : Config) (home at : ℕ) (s : BlockState) (u : List ℕ) (block2 : 
     given-not-next h = rw (good, h)
 
     pub given-next : (c .strict && notNext (s .assembled) b) ≡ false → (l : ℕ) → l ≡ lengthMet (c .strict) (s .assembled) b
-        → block1Given c home at s u block2 payload b reply ≡ spliced home at s u block2 payload b reply l (spliceOf (c .upload) l (blockStart b) (blockSize b) (length payload))
+        → block1Given c home at s u block2 payload b reply ≡ onSplice home at s u block2 payload b reply l (spliceOf (c .upload) l (blockStart b) (blockSize b) (length payload))
     unfolding block1Given
     given-next h l e = rw (good, h, e)
 

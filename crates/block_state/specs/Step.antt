@@ -60,60 +60,60 @@ notNext a b = not (eqb (b .num) 0) && not (eqb (blockStart b) (a .len) && eqb (b
 unfoldable pub lengthMet : Bool → Assembled → BlockValue → ℕ
 lengthMet strict a b = cond (strict && eqb (b .num) 0) 0 (a .len)
 
--- ---- A request call, on the key's upload piece, which begins at `home` of the upload memory; its response piece begins at `at` of the other
+-- ---- A request call, on the key's upload piece, which begins at `home` of the upload memory; its response piece begins at `away` of the other
 
 -- Step 4, with a response cached: "serve the chunk from the cache: Served (head, chunk, Block2 value, Block1 value if step 2 made one),
 -- and drop the cache if no more follows". Refusal 8 keeps the cache.
 unfoldable pub served : ℕ → BlockState → List ℕ → MaybeBlock → Chunk → Left
-served at s u block1 (chunk.Refused n) = left s u (Refused n)
-served at s u block1 (chunk.Bytes b from to) =
+served away s u block1 (chunk.Refused n) = left s u (Refused n)
+served away s u block1 (chunk.Bytes b from to) =
     let head = s .cached .head in
     left (withCached s (keptWhile (b .more) (s .cached))) u
-    (Served block1 b (bytesFrom at head) (record { from = at + head + from; to = at + head + to }))
+    (Served block1 b (bytesFrom away head) (record { from = away + head + from; to = away + head + to }))
 
 -- Step 4: "Record the Block2 value, or none. If it is given and a response is cached, serve." Step 5: "Otherwise Handed after step 2, or Pass."
 unfoldable pub onward : ℕ → BlockState → List ℕ → MaybeBlock → MaybeBlock → Answer → Left
-onward at s u Absent block1 otherwise = left (withRecorded s Absent) u otherwise
-onward at s u (Given b) block1 otherwise =
+onward away s u Absent block1 otherwise = left (withRecorded s Absent) u otherwise
+onward away s u (Given b) block1 otherwise =
     let recorded = withRecorded s (Given b) in
-    cond (s .cached .held) (served at recorded u block1 (chunkOf b (s .cached .payload))) (left recorded u otherwise)
+    cond (s .cached .held) (served away recorded u block1 (chunkOf b (s .cached .payload))) (left recorded u otherwise)
 
 -- Step 2, with n bytes assembled: "If more: Continue (2.31, the Block1 value), done. Otherwise the body is complete, assembled length
 -- becomes 0, go on."
 unfoldable pub taken : ℕ → ℕ → BlockState → List ℕ → MaybeBlock → BlockValue → BlockValue → ℕ → Left
-taken home at s u block2 b reply n =
+taken home away s u block2 b reply n =
     cond (b .more)
     (left (withAssembled s (assembly n (b .«size_exponent»))) u (Continue reply))
-    (onward at (withAssembled s (assembly 0 0)) u block2 (Given reply) (Handed reply (bytesFrom home n)))
+    (onward away (withAssembled s (assembly 0 0)) u block2 (Given reply) (Handed reply (bytesFrom home n)))
 
 -- Step 2: "Block1 given: splice", where l bytes are assembled.
-unfoldable pub spliced : ℕ → ℕ → BlockState → List ℕ → MaybeBlock → List ℕ → BlockValue → BlockValue → ℕ → Splice → Left
-spliced home at s u block2 payload b reply l (splice.Refused n) = left s u (Refused n)
-spliced home at s u block2 payload b reply l (splice.Body n) =
-    taken home at s (pieceAfter u l (blockStart b) (blockSize b) payload) block2 b reply n
+unfoldable pub onSplice : ℕ → ℕ → BlockState → List ℕ → MaybeBlock → List ℕ → BlockValue → BlockValue → ℕ → Splice → Left
+onSplice home away s u block2 payload b reply l (splice.Refused n) = left s u (Refused n)
+onSplice home away s u block2 payload b reply l (splice.Body n) =
+    taken home away s (pieceAfter u l (blockStart b) (blockSize b) payload) block2 b reply n
 
 -- Strict mode's two checks, then step 2.
 unfoldable pub block1Given : Config → ℕ → ℕ → BlockState → List ℕ → MaybeBlock → List ℕ → BlockValue → BlockValue → Left
-block1Given c home at s u block2 payload b reply =
+block1Given c home away s u block2 payload b reply =
     let p = length payload in
     let l = lengthMet (c .strict) (s .assembled) b in
     cond (c .strict && badForm b p) (left s u (Refused 10))
     (cond (c .strict && notNext (s .assembled) b) (left s u (Refused 9))
-    (spliced home at s u block2 payload b reply l (spliceOf (c .upload) l (blockStart b) (blockSize b) p)))
+    (onSplice home away s u block2 payload b reply l (spliceOf (c .upload) l (blockStart b) (blockSize b) p)))
 
 -- Step 1 has negotiated. Step 3: "Block1 absent and a block came out: TooLarge (4.13, that value), done." (With Block1 given, a block or a
 -- refusal comes out.)
 unfoldable pub onNegotiated : Config → ℕ → ℕ → BlockState → List ℕ → MaybeBlock → List ℕ → MaybeBlock → Negotiated → Left
-onNegotiated c home at s u block2 payload block1 (agreed.Refused n) = left s u (Refused n)
-onNegotiated c home at s u block2 payload block1 agreed.NoBlock = onward at s u block2 Absent Pass
-onNegotiated c home at s u block2 payload Absent (agreed.Block reply) = left s u (TooLarge reply)
-onNegotiated c home at s u block2 payload (Given b) (agreed.Block reply) = block1Given c home at s u block2 payload b reply
+onNegotiated c home away s u block2 payload block1 (agreed.Refused n) = left s u (Refused n)
+onNegotiated c home away s u block2 payload block1 agreed.NoBlock = onward away s u block2 Absent Pass
+onNegotiated c home away s u block2 payload Absent (agreed.Block reply) = left s u (TooLarge reply)
+onNegotiated c home away s u block2 payload (Given b) (agreed.Block reply) = block1Given c home away s u block2 payload b reply
 
 -- Step 1: "Negotiate with Block1, always."
 unfoldable pub stepRequest : Config → ℕ → ℕ → BlockState → List ℕ → Request → Left
-stepRequest c home at s u r =
+stepRequest c home away s u r =
     let block1 = requestBlock (r .block1) in
-    onNegotiated c home at s u (requestBlock (r .block2)) (r .payload) block1
+    onNegotiated c home away s u (requestBlock (r .block2)) (r .payload) block1
     (negotiated block1 (r .bare) (length (r .payload)) (c .limit))
 
 -- ---- A response call, on the key's response piece

@@ -53,7 +53,7 @@ pub struct BlockState {
     pub recorded: Recorded,
 }
 
-// The bytes from..to of the memory that the answer names.
+// The bytes from..to: of the upload memory after Handed, of the response memory after Served, of the response's own payload after Whole and First.
 pub struct Part {
     pub from: usize,
     pub to: usize,

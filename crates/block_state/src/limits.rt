@@ -4,26 +4,15 @@ use crate::BlockState;
 use crate::Cached;
 use crate::Config;
 use crate::Recorded;
+use crate::state;
 ghost use mathlib.Core.Path.{_≡_};
 ghost use Prim.Native.Nat.{_^_, _<_};
 ghost use Rattle.block_state.specs.State.{assembledOk, cachedOk, recordedOk, stateOk, isNothing};
 
-fn byte(x: u8) -> usize
-    ensures { λ r. ⌜ (r ≡ x) × (r < 2 ^ 8) ⌝ }
-{
-    x as usize
-}
-
-fn length(x: u32) -> usize
-    ensures { λ r. ⌜ (r ≡ x) × (r < 2 ^ 32) ⌝ }
-{
-    x as usize
-}
-
 fn assembled_ok(config: Config, assembled: Assembled) -> bool
     ensures { λ r. ⌜ r ≡ assembledOk config assembled ⌝ }
 {
-    (length(assembled.len) <= config.upload)
+    (state::wide32(assembled.len) <= config.upload)
         & (assembled.exponent <= 7)
         & ((assembled.len != 0) | (assembled.exponent == 0))
 }
@@ -33,7 +22,7 @@ fn cached_ok(config: Config, cached: Cached) -> bool
 {
     if cached.held {
         return (cached.head <= 128)
-            & (byte(cached.head) + length(cached.payload) <= config.response);
+            & (state::wide8(cached.head) + state::wide32(cached.payload) <= config.response);
     }
     (cached.head == 0) & (cached.payload == 0)
 }

@@ -18,27 +18,27 @@ ghost use lib.ListN.{length};
 ghost use Rattle.negotiation.specs.Chunk.{chunkOf};
 ghost use Rattle.pieces.specs.Splice.{spliceOf};
 ghost use Rattle.block_value.specs.Value.{blockSize, blockStart};
-ghost use Rattle.block_state.specs.Step.{left, badForm, notNext, lengthMet, served, onward, taken, spliced, block1Given, stepRequest};
+ghost use Rattle.block_state.specs.Step.{left, badForm, notNext, lengthMet, served, onward, taken, onSplice, block1Given, stepRequest};
 ghost use Rattle.block_state.specs.Contract.{asking, Room};
 
-// Serves the chunk that the block asks for from the cache, whose piece begins at `at`: maybe_serve_cached_response in the Rust.
+// Serves the chunk that the block asks for from the cache, whose piece begins at `away`: maybe_serve_cached_response in the Rust.
 fn serve_cached_response(
-    at: usize,
+    away: usize,
     state: BlockState,
     block1: MaybeBlock,
     block2: BlockValue,
 ) -> Stepped
-    requires { ⌜ at < 2 ^ 32 ⌝ }
-    ensures { λ r. ⌜ ((u : List ℕ) → left (r .state) u (r .answer) ≡ served at state u block1 (chunkOf block2 (state .cached .payload))) ⌝ }
+    requires { ⌜ away < 2 ^ 32 ⌝ }
+    ensures { λ r. ⌜ ((u : List ℕ) → left (r .state) u (r .answer) ≡ served away state u block1 (chunkOf block2 (state .cached .payload))) ⌝ }
 {
     let cached = state.cached;
     match negotiation::chunk_of(block2, state::wide32(cached.payload)) {
         Chunk::Refused(n) => state::refused(state, n),
         Chunk::Bytes(reply, from, to) => {
             let next = state::with_cached(state, state::kept_while(reply.more, cached));
-            let start = at + state::wide8(cached.head);
+            let start = away + state::wide8(cached.head);
             let head = Part {
-                from: at,
+                from: away,
                 to: start,
             };
             let chunk = Part {
@@ -52,14 +52,14 @@ fn serve_cached_response(
 
 // Records the Block2 value and serves from the cache, or goes on with `otherwise`.
 fn maybe_handle_request_block2(
-    at: usize,
+    away: usize,
     state: BlockState,
     block2: MaybeBlock,
     block1: MaybeBlock,
     otherwise: Answer,
 ) -> Stepped
-    requires { ⌜ at < 2 ^ 32 ⌝ }
-    ensures { λ r. ⌜ ((u : List ℕ) → left (r .state) u (r .answer) ≡ onward at state u block2 block1 otherwise) ⌝ }
+    requires { ⌜ away < 2 ^ 32 ⌝ }
+    ensures { λ r. ⌜ ((u : List ℕ) → left (r .state) u (r .answer) ≡ onward away state u block2 block1 otherwise) ⌝ }
 {
     let next = state::with_recorded(state, block2);
     match block2 {
@@ -67,7 +67,7 @@ fn maybe_handle_request_block2(
         MaybeBlock::Given(block) => {
             let cached = state.cached;
             if cached.held {
-                return serve_cached_response(at, next, block1, block);
+                return serve_cached_response(away, next, block1, block);
             }
             state::answered(next, otherwise)
         }
@@ -77,15 +77,15 @@ fn maybe_handle_request_block2(
 // What follows once n bytes are assembled: the next block is asked for, or the body is complete.
 fn take_body(
     home: usize,
-    at: usize,
+    away: usize,
     state: BlockState,
     block2: MaybeBlock,
     block: BlockValue,
     reply: BlockValue,
     n: usize,
 ) -> Stepped
-    requires { ⌜ (home < 2 ^ 32) × (at < 2 ^ 32) × (n < 2 ^ 32) ⌝ }
-    ensures { λ r. ⌜ ((u : List ℕ) → left (r .state) u (r .answer) ≡ taken home at state u block2 block reply n) ⌝ }
+    requires { ⌜ (home < 2 ^ 32) × (away < 2 ^ 32) × (n < 2 ^ 32) ⌝ }
+    ensures { λ r. ⌜ ((u : List ℕ) → left (r .state) u (r .answer) ≡ taken home away state u block2 block reply n) ⌝ }
 {
     if block.more {
         let next = state::with_assembled(state, n, block.size_exponent);
@@ -97,7 +97,7 @@ fn take_body(
     };
     let next = state::with_assembled(state, 0, 0);
     maybe_handle_request_block2(
-        at,
+        away,
         next,
         block2,
         MaybeBlock::Given(reply),
@@ -116,7 +116,7 @@ fn length_met(strict: bool, assembled: Assembled, block: BlockValue) -> usize
 
 fn splice_block(
     home: usize,
-    at: usize,
+    away: usize,
     state: BlockState,
     piece: &mut [u8],
     len: usize,
@@ -125,14 +125,14 @@ fn splice_block(
     block: BlockValue,
     reply: BlockValue,
 ) -> Stepped
-    requires { ⌜ (home < 2 ^ 32) × (at < 2 ^ 32) × (length (now piece) < 2 ^ 32) × (len ≤ length (now piece)) ⌝ }
-    ensures { λ r. ⌜ left (r .state) (now (piece .exit)) (r .answer) ≡ spliced home at state (now (piece .entry)) block2 (now (payload .entry)) block reply len (spliceOf (length (now (piece .entry))) len (blockStart block) (blockSize block) (length (now (payload .entry)))) ⌝ }
+    requires { ⌜ (home < 2 ^ 32) × (away < 2 ^ 32) × (length (now piece) < 2 ^ 32) × (len ≤ length (now piece)) ⌝ }
+    ensures { λ r. ⌜ left (r .state) (now (piece .exit)) (r .answer) ≡ onSplice home away state (now (piece .entry)) block2 (now (payload .entry)) block reply len (spliceOf (length (now (piece .entry))) len (blockStart block) (blockSize block) (length (now (payload .entry)))) ⌝ }
 {
     let start = block_value::start(block);
     let size = block_value::size(block);
     match pieces::extending_splice(piece, len, start, size, payload) {
         Splice::Refused(n) => state::refused(state, n),
-        Splice::Body(n) => take_body(home, at, state, block2, block, reply, n),
+        Splice::Body(n) => take_body(home, away, state, block2, block, reply, n),
     }
 }
 
@@ -156,7 +156,7 @@ fn not_next(assembled: Assembled, block: BlockValue) -> bool
 fn handle_request_block1(
     config: Config,
     home: usize,
-    at: usize,
+    away: usize,
     state: BlockState,
     piece: &mut [u8],
     block2: MaybeBlock,
@@ -164,8 +164,8 @@ fn handle_request_block1(
     block: BlockValue,
     reply: BlockValue,
 ) -> Stepped
-    requires { ⌜ Room config home at state (length (now piece)) ⌝ }
-    ensures { λ r. ⌜ left (r .state) (now (piece .exit)) (r .answer) ≡ block1Given config home at state (now (piece .entry)) block2 (now (payload .entry)) block reply ⌝ }
+    requires { ⌜ Room config home away state (length (now piece)) ⌝ }
+    ensures { λ r. ⌜ left (r .state) (now (piece .exit)) (r .answer) ≡ block1Given config home away state (now (piece .entry)) block2 (now (payload .entry)) block reply ⌝ }
 {
     let assembled = state.assembled;
     if config.strict & bad_form(block, payload.len()) {
@@ -175,14 +175,14 @@ fn handle_request_block1(
         return state::refused(state, 9);
     }
     let len = length_met(config.strict, assembled, block);
-    splice_block(home, at, state, piece, len, block2, payload, block, reply)
+    splice_block(home, away, state, piece, len, block2, payload, block, reply)
 }
 
-// A request, whose key's upload piece begins at `home` of the upload memory and whose response piece at `at` of the response memory.
+// A request, whose key's upload piece begins at `home` of the upload memory and whose response piece at `away` of the response memory.
 pub fn step_request<'a>(
     config: Config,
     home: usize,
-    at: usize,
+    away: usize,
     state: BlockState,
     piece: &mut [u8],
     bare: usize,
@@ -192,8 +192,8 @@ pub fn step_request<'a>(
     option2: &'a [u8],
     payload: &'a [u8],
 ) -> Stepped
-    requires { ⌜ Room config home at state (length (now piece)) ⌝ }
-    ensures { λ r. ⌜ left (r .state) (now (piece .exit)) (r .answer) ≡ stepRequest config home at state (now (piece .entry)) (asking bare given1 (now (option1 .entry)) given2 (now (option2 .entry)) (now (payload .entry))) ⌝ }
+    requires { ⌜ Room config home away state (length (now piece)) ⌝ }
+    ensures { λ r. ⌜ left (r .state) (now (piece .exit)) (r .answer) ≡ stepRequest config home away state (now (piece .entry)) (asking bare given1 (now (option1 .entry)) given2 (now (option2 .entry)) (now (payload .entry))) ⌝ }
 {
     let block1 = negotiation::request_block(given1, option1);
     let block2 = negotiation::request_block(given2, option2);
@@ -201,7 +201,7 @@ pub fn step_request<'a>(
     match negotiation::negotiate_block_size_if_necessary(block1, bare, p, config.limit) {
         Negotiated::Refused(n) => state::refused(state, n),
         Negotiated::NoBlock => maybe_handle_request_block2(
-            at,
+            away,
             state,
             block2,
             MaybeBlock::Absent,
@@ -212,7 +212,7 @@ pub fn step_request<'a>(
             MaybeBlock::Given(block) => handle_request_block1(
                 config,
                 home,
-                at,
+                away,
                 state,
                 piece,
                 block2,

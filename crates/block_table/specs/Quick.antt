@@ -9,7 +9,7 @@ use Rattle.block_table.specs.Lists.{all}
 use Rattle.block_table.specs.Keys.{same, keyOf}
 use Rattle.block_table.specs.Table.{clash, live}
 
--- A number that entries in use have in common if their keys are equal: odd. A free entry's is even, and no other's.
+-- A number that entries in use have in common if their keys are equal: odd. A free entry's is even, and apart from every other's.
 unfoldable pub tagOf : Entry → ℕ → ℕ
 tagOf e i = cond (e .used && leb (e .key .len) 64) (folded (digestOf (keyOf (e .key)))) (i * 2)
 

@@ -367,7 +367,7 @@ fn find_free(entries: [Entry; 16], lifetime: u64, time: u64) -> usize
     16
 }
 
-// The place of the key in the row that a sweep leaves, which is not made for it; 16 if there is none.
+// The place of the key in the row that a sweep would leave, found without building that row; 16 if there is none.
 pub fn place_of(entries: [Entry; 16], lifetime: u64, time: u64, key: &[u8]) -> usize
     ensures { λ r. ⌜ r ≡ place (now (key .entry)) (sweep lifetime time entries) ⌝ }
 {

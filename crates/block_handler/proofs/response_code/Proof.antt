@@ -60,7 +60,7 @@ returns-8 : tie.Need-returns-8
 returns-8 c = search needs
 
 returns-9 : tie.Need-returns-9
-returns-9 c = c .refusal-code .ensures ∙ sym (ap (λ (a : Answer). said a .response) (c .before .before .answer .given .1))
+returns-9 c = c .refusal-code .ensures ∙ sym (ap (λ (a : Answer). said a .code) (c .before .before .answer .given .1))
 
 pub response-code-spec : {M : Type 1} → statement M
 response-code-spec =

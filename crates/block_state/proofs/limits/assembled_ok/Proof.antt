@@ -10,14 +10,14 @@ unless : (b x : Bool) → (not b || x) ≡ cond b x true
 unless true x = refl
 unless false x = refl
 
-length-requires : tie.Need-length-requires
-length-requires c κs = search needs
+wide32-requires : tie.Need-wide32-requires
+wide32-requires c κs = search needs
 
 returns : tie.Need-returns
 unfolding assembledOk
 returns c =
     let l = c .before .before .before .before in
-    rw (l .length .ensures .0, unless (eqb (l .before .args .assembled .len) 0))
+    rw (l .wide32 .ensures .0, unless (eqb (l .before .args .assembled .len) 0))
 
 pub assembled-ok-spec : {M : Type 1} → statement M
-assembled-ok-spec = tie.close (tie.spec length-requires returns)
+assembled-ok-spec = tie.close (tie.spec wide32-requires returns)

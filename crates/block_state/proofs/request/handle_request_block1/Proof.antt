@@ -3,7 +3,7 @@ use Prim.Native.Nat.{ℕ}
 use lib.ListN.{length}
 use Rattle.pieces.specs.Splice.{spliceOf}
 use Rattle.block_value.specs.Value.{blockSize, blockStart}
-use Rattle.block_state.specs.Step.{spliced}
+use Rattle.block_state.specs.Step.{onSplice}
 use Rattle.block_state.proofs.Steps.{returned, given-bad, given-not-next, given-next}
 use borrow.Author.Needs.{needs}
 use Rattle.block_state.proofs.request.handle_request_block1.Statement.{statement}
@@ -43,7 +43,7 @@ returns-3 c =
     let a = c .before .before .before .before .before .before .before .before .before .before .before .before .before .before .args in
     let l = c .before .before .before .before .length-met .result in
     c .before .before .splice-block .ensures
-    ∙ ap (λ (n : ℕ). spliced (a .home) (a .at) (a .state) (a .piece .now) (a .block2) (a .payload .now) (a .block) (a .reply) l (spliceOf n l (blockStart (a .block)) (blockSize (a .block)) (length (a .payload .now)))) (c .before .before .before .before .before .before .before .before .before .before .before .before .before .before .pre .size)
+    ∙ ap (λ (n : ℕ). onSplice (a .home) (a .away) (a .state) (a .piece .now) (a .block2) (a .payload .now) (a .block) (a .reply) l (spliceOf n l (blockStart (a .block)) (blockSize (a .block)) (length (a .payload .now)))) (c .before .before .before .before .before .before .before .before .before .before .before .before .before .before .pre .size)
     ∙ sym (given-next _ _ _ _ _ _ _ _ _ (rw (c .before .before .before .before .before .before .before .before .before .before .bad-form .ensures) at (c .before .before .before .before .before .before .before .before .if1 .left)) (rw (c .before .before .before .before .before .before .before .not-next .ensures) at (c .before .before .before .before .before .if2 .left)) _ (c .before .before .before .before .length-met .ensures .0))
 
 pub handle-request-block1-spec : {M : Type 1} → statement M

@@ -66,7 +66,7 @@ returns-2 c =
     let d = c .before .before .before .before .before .before in
     let a = d .before .before .before .before .before .before .args in
     let told = c .before .before .n2 .given .1 in
-    c .take-body .ensures _ ∙ ap (λ (u : List ℕ). taken (a .home) (a .at) (a .state) u (a .block2) (a .block) (a .reply) (c .before .before .n2 .given .0 .0)) (leaves d _ told)
+    c .take-body .ensures _ ∙ ap (λ (u : List ℕ). taken (a .home) (a .away) (a .state) u (a .block2) (a .block) (a .reply) (c .before .before .n2 .given .0 .0)) (leaves d _ told)
     ∙ sym (spliced-body _ _ _ _ _ _ _ _ _ _ _ (answer d ∙ told))
 
 pub splice-block-spec : {M : Type 1} → statement M
