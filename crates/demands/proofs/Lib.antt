@@ -1,1 +1,3 @@
 pub mod Cases
+pub mod OwnStep
+pub mod Demand3
