@@ -1,3 +1,5 @@
 pub mod Cases
 pub mod OwnStep
 pub mod Demand3
+pub mod Compiled
+pub mod Determined
