@@ -3,3 +3,4 @@ pub mod OwnStep
 pub mod Demand3
 pub mod Compiled
 pub mod Determined
+pub mod Incident
