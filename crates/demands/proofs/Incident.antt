@@ -8,13 +8,15 @@ use native.Mathlib.Nat.{zero-add, zero-mul, one-mul}
 use native.Mathlib.Omega.{arith}
 use lib.ListN.{length, take, drop, replicate, length-append, length-take, length-drop}
 use lib.Seq.{take-take, drop-drop, take-at, drop-at, length-take-le, drop-append-le}
-use Rattle.pieces.specs.Memory.{patch, part}
+use Rattle.pieces.specs.Memory.{patch, part, pieceOf, putPiece}
 use Rattle.pieces.specs.Splice.{splicedLength, spliceOf, pieceAfter}
 use Rattle.pieces.specs.Splice as pieces
 use Rattle.pieces.specs.declared.Splice.the-variants.{Body}
 use Rattle.pieces.proofs.Memory.{drop-part}
 use Rattle.pieces.proofs.Splicing as splicing
-use Rattle.block_value.specs.Value.{sizeOf}
+use Rattle.block_value.specs.Value.{sizeOf, made, largestPower, readOf}
+use Rattle.negotiation.specs.Negotiation.{requestBlock, negotiated, replyAt}
+use Rattle.negotiation.specs.Negotiation as negotiation
 use Rattle.block_value.proofs.Laws.{size-least, size-most}
 use Rattle.negotiation.specs.declared.MaybeBlock.the-variants.{Absent, Given}
 use Rattle.negotiation.specs.declared.Negotiated.the-variants.{Block}
@@ -26,7 +28,13 @@ use Rattle.block_state.specs.State.{assembly, withAssembled, withRecorded}
 use Rattle.block_state.specs.Step.{Left, left, bytesFrom, lengthMet, taken, stepRequest}
 use Rattle.block_state.proofs.Steps.{onward-absent, taken-more, taken-last, spliced-body, given-next, request-given}
 use Rattle.block_state.proofs.Tests.{clash-of}
+use Rattle.block_state.specs.State as state
+use Rattle.block_state.specs.Step as step
+use Rattle.block_table.specs.Keys as keys
+use Rattle.block_table.specs.Table as table
 use Rattle.block_handler.specs.Call.{call}
+use Rattle.block_handler.specs.Call as h
+use Rattle.block_handler.specs.Parts.{partOf}
 use Rattle.demands.specs.Demand3.{block, Demand3}
 use Rattle.demands.specs.Incident.{Carries, once, twice, TailKept, Story, StartsAfresh}
 use Rattle.demands.proofs.OwnStep.{room-agreed, held-after}
@@ -114,3 +122,8 @@ tail-kept c home at s u x l first last plain hx hl h fits hu f g =
       ap (λ (v : Left). v .answer) e,
       ap (λ (v : Left). take l (v .piece)) e ∙ (rw n₂ at (held-after u₁ b₂)) ∙ two u l size p q (f .full) (g .full) h hu′,
     )
+
+-- the same by whole calls, by computation
+pub story : Story
+unfolding h.call h.withinLimits h.configOk h.memoriesOk h.whatOk h.callAt keys.same keys.keyOk keys.keyOf keys.storedOk keys.stored keys.isNoKey table.holds table.entryOk table.clash table.distinct table.tableOk table.live table.swept table.sweep table.place table.opened state.assembledOk state.cachedOk state.recordedOk state.stateOk state.isNothing step.badForm step.notNext step.lengthMet step.onward step.taken step.spliced step.block1Given step.onNegotiated step.stepRequest requestBlock readOf negotiated negotiation.within replyAt made largestPower sizeOf spliceOf pieces.spliced pieceAfter patch part pieceOf putPiece partOf
+story = record { plain = (refl, (refl, refl)); strict = (refl, (refl, refl)) }
