@@ -4,3 +4,4 @@ pub mod Demand3
 pub mod Compiled
 pub mod Determined
 pub mod Incident
+pub mod Shams
