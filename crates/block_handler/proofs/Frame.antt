@@ -1,18 +1,17 @@
 -- Laws of a call: it is refused or has its place; it keeps the limits; a call for another key keeps a live entry and both its pieces; a
 -- request at its key's place is its step. Assumes nothing.
 use Prim.Native.Nat.{ℕ, _+_, _*_, _≤_, _<_}
-use mathlib.Core.Bool.{Bool, true, false, not, _&&_}
-use mathlib.Core.Path.{_≡_, refl, sym, _∙_, ap}
+use mathlib.Core.Bool.{Bool, true, false, not}
+use mathlib.Core.Path.{_≡_, refl, sym, _∙_}
 use mathlib.Core.Logic.{_≢_}
 use mathlib.Core.List.{List}
 use native.Mathlib.Omega.{arith}
 use lib.ListN.{length, length-set}
 use lib.Dec.{leb, ltb}
-use borrow.Author.Tests.{ltb-false, leb-false, eqb-true, le-ltb, lt-leb, eq-eqb, le-leb, leb-true}
+use borrow.Author.Tests.{ltb-false, leb-false, eqb-true, le-ltb, lt-leb, eq-eqb, leb-true}
 use Rattle.pieces.specs.Memory.{pieceOf}
 use Rattle.pieces.proofs.Memory.{piece-order, length-piece, length-put, piece-put-same, piece-put-other}
 use Rattle.block_state.specs.declared.Config.{Config}
-use Rattle.block_state.specs.declared.Answer.{Answer}
 use Rattle.block_state.specs.declared.Answer.the-variants.{Refused}
 use Rattle.block_state.specs.Message.{Request, Response, What, request, response, WhatBytes}
 use Rattle.block_state.specs.Step.{Left, stepRequest, stepResponse}
@@ -25,7 +24,7 @@ use Rattle.block_table.specs.Keys.{same, keyOk}
 use Rattle.block_table.specs.Table.{inUse, holds, tableOk, live, at, place, opened}
 use Rattle.block_table.proofs.Entries.{elsewhere, at-set-same, at-set-other}
 use Rattle.block_table.proofs.TableFits.{TableFits, table-fits, fits-table, row-length, row-live, opened-fits, put-fits}
-use Rattle.block_handler.specs.Call.{World, Call, Done, done, configOk, memoriesOk, whatOk, withinLimits, requestLeft, callAt, rowOf, call}
+use Rattle.block_handler.specs.Call.{World, Call, Done, done, configOk, memoriesOk, whatOk, withinLimits, callAt, rowOf, call}
 
 -- the limits of what one call hands on to the next
 pub record WorldFits (c : Config) (w : World) : Type 0 where
@@ -160,16 +159,16 @@ module _ (c : Config) (w : World) (q : Call) (f : WorldFits c w) where
         let away : i ≢ here = elsewhere (q .key) row row-16 k other i (rw stays held) in
         let ne : here ≡ i → ⊥ = λ e. away (sym e) in λ x.
         elim x [
-        | request r ↦ λ b ok. record {
-          entry = at-set-other row here _ in-row i away ∙ stays;
-          upload = piece-put-other (c .upload) (w .upload) here in-upload _ (request-leaves r b .piece) i ne;
-          response = refl;
-        }
-        | response r ↦ λ b ok. record {
-          entry = at-set-other row here _ in-row i away ∙ stays;
-          upload = refl;
-          response = piece-put-other (c .response) (w .response) here in-response _ (response-leaves r ok .piece) i ne;
-        }
+          | request r ↦ λ b ok. record {
+            entry = at-set-other row here _ in-row i away ∙ stays;
+            upload = piece-put-other (c .upload) (w .upload) here in-upload _ (request-leaves r b .piece) i ne;
+            response = refl;
+          }
+          | response r ↦ λ b ok. record {
+            entry = at-set-other row here _ in-row i away ∙ stays;
+            upload = refl;
+            response = piece-put-other (c .response) (w .response) here in-response _ (response-leaves r ok .piece) i ne;
+          }
         ]
 
     -- A REQUEST AT ITS KEY'S PLACE is its step

@@ -3,7 +3,7 @@ use mathlib.Core.Path.{_≡_, refl, sym, ap, subst}
 use mathlib.Core.List.{List, [], _∷_}
 use Rattle.block_state.specs.declared.Config.{Config}
 use Rattle.block_handler.specs.Call.{World, Call, Done, call}
-use Rattle.demands.specs.Demand3.{Handler, Seen, seen, run, seenOn, callOn, joined, HandsOn, Demand3}
+use Rattle.demands.specs.Demand3.{Handler, Seen, seen, run, callOn, Demand3}
 use Rattle.demands.specs.Compiled.{KeepsContract, Ran, seenOf, Demand3OfRuns}
 use Rattle.demands.proofs.Demand3.{demand3}
 

@@ -1,6 +1,6 @@
 -- DEMAND 3 holds of the definition of a call, in both modes and for every size. Assumes nothing.
 use Prim.Native.Nat.{ℕ, suc, _+_, _-_, _*_, _≤_, _<_}
-use mathlib.Core.Bool.{Bool, true, false, cond}
+use mathlib.Core.Bool.{Bool, true, false}
 use mathlib.Core.Path.{_≡_, refl, sym, _∙_, ap}
 use mathlib.Core.Logic.{_⊎_, inl, inr}
 use mathlib.Core.List.{List, [], _∷_, _++_, map, append-assoc, nil≢cons, cons≢nil, head-eq-of-cons-eq, tail-eq-of-cons-eq}
@@ -9,23 +9,21 @@ use lib.ListN.{length, take, length-append}
 use lib.Seq.{take-take}
 use lib.Dec.{leb, ltb}
 use borrow.Author.Tests.{ltb-true, leb-true, le-leb}
-use Rattle.pieces.specs.Memory.{part, pieceOf, patch}
+use Rattle.pieces.specs.Memory.{part, pieceOf}
 use Rattle.pieces.proofs.Memory.{piece-order}
 use Rattle.block_value.specs.Value.{sizeOf}
 use Rattle.block_value.proofs.Laws.{size-most}
 use Rattle.negotiation.specs.Negotiation.{requestBlock}
 use Rattle.negotiation.specs.declared.MaybeBlock.the-variants.{Absent, Given}
 use Rattle.block_state.specs.declared.Config.{Config}
-use Rattle.block_state.specs.declared.Answer.the-variants.{Continue, Handed}
-use Rattle.block_state.specs.Message.{Request, request, WhatBytes}
+use Rattle.block_state.specs.Message.{request, WhatBytes}
 use Rattle.block_state.specs.Answers.{said, continue, handed}
-use Rattle.block_state.specs.State.{assembly, withAssembled, withRecorded}
 use Rattle.block_state.specs.Step.{left, bytesFrom, stepRequest}
 use Rattle.block_state.proofs.Tests.{ands, and-both, by-cases}
 use Rattle.block_table.specs.declared.Entry.{Entry}
 use Rattle.block_table.specs.Lists.{find}
 use Rattle.block_table.specs.Keys.{same, keyOk}
-use Rattle.block_table.specs.Table.{free, holds, live, sweep, unused, at, place, opened}
+use Rattle.block_table.specs.Table.{free, holds, live, unused, at, place, opened}
 use Rattle.block_table.proofs.Lists.{find-at-most}
 use Rattle.block_table.proofs.Keys.{same-refl}
 use Rattle.block_table.proofs.Entries.{holds-used, holds-new, used-live, swept-dead, swept-holds, at-sweep, opened-own, opened-new, opened-key, place-holds, place-of}
@@ -34,7 +32,7 @@ use Rattle.block_handler.specs.Call.{World, Call, configOk, whatOk, call}
 use Rattle.block_handler.specs.Parts.{partOf, bodyOf}
 use Rattle.block_handler.proofs.Parted.{part-there}
 use Rattle.block_handler.proofs.Frame.{WorldFits, world-fits, key-within, Took, request-took, call-fits, other-keeps, clock-most}
-use Rattle.demands.specs.Demand3.{Handler, Seen, seen, run, callsOn, seenOn, Sent, callOn, block, Each, Fills, joined, Prompt, Rising, AllBytes, entryAt, HasLive, HasFree, NothingInPlain, Push, Given3, HandsOn, Demand3}
+use Rattle.demands.specs.Demand3.{Handler, Seen, seen, run, callsOn, seenOn, Sent, callOn, block, Each, Fills, joined, Prompt, Rising, AllBytes, entryAt, HasLive, HasFree, NothingInPlain, HandsOn, Demand3}
 use Rattle.demands.proofs.OwnStep.{Meets, held-after, own-more, own-last, meets-first, meets-next}
 
 -- ---- what the limits of the configuration tell
@@ -256,9 +254,9 @@ module _ (c : Config) (k : List ℕ) (x : ℕ) (named : keyOk k ≡ true) (hx : 
       let long : length (bytes ++ p ++ joined t rest) ≡ length (bytes ++ p) + length (joined t rest) = length-append (bytes ++ p) (joined t rest) in
       let f′ : length (bytes ++ p ++ joined t rest) ≤ c .upload = rw asc f in
       let m = next-more c w k x j true s bytes g named hb hx (omega (arith, b .count)) (b .numbered .0) (b .full .0) (b .alone .0) (b .room .0)
-          (omega (arith, b .full .0)) (omega arith) refl (b .full .0) in
+      (omega (arith, b .full .0)) (omega arith) refl (b .full .0) in
       let left : Blocks c x (suc j) t rest =
-          record { count = omega (arith, b .count); numbered = b .numbered .1; full = b .full .1; alone = b .alone .1; room = b .room .1 } in
+      record { count = omega (arith, b .count); numbered = b .numbered .1; full = b .full .1; alone = b .alone .1; room = b .room .1 } in
       hands-on-cons (bytes ++ (p ++ joined t rest)) (seen (callOn k s) (call c w (callOn k s))) (seenOn k (run call c (call c w (callOn k s) .world) calls)) (m .0)
       (rw asc at (more (call c w (callOn k s) .world) _ (suc j) (s .time) (bytes ++ p) t rest (m .2) (rw (m .1) rise) ab own pr left f′))
 

@@ -1,13 +1,13 @@
 -- Plain mode keeps an old list's tail, and strict mode does not. Assumes nothing.
-use Prim.Native.Nat.{ℕ, _+_, _-_, _*_, _≤_, _<_}
-use mathlib.Core.Bool.{Bool, true, false, cond, _&&_}
+use Prim.Native.Nat.{ℕ, _+_, _-_, _*_, _≤_}
+use mathlib.Core.Bool.{Bool, true, false}
 use mathlib.Core.Path.{_≡_, refl, sym, _∙_, ap}
 use mathlib.Core.Logic.{inl}
-use mathlib.Core.List.{List, [], _++_, append-assoc, append-nil}
+use mathlib.Core.List.{List, _++_, append-nil}
 use native.Mathlib.Nat.{zero-add, zero-mul, one-mul}
 use native.Mathlib.Omega.{arith}
-use lib.ListN.{length, take, drop, replicate, length-append, length-take, length-drop}
-use lib.Seq.{take-take, drop-drop, take-at, drop-at, length-take-le, drop-append-le}
+use lib.ListN.{length, take, drop}
+use lib.Seq.{drop-drop, take-at, drop-at, length-take-le}
 use Rattle.pieces.specs.Memory.{patch, part, pieceOf, putPiece}
 use Rattle.pieces.specs.Splice.{splicedLength, spliceOf, pieceAfter}
 use Rattle.pieces.specs.Splice as pieces
@@ -17,7 +17,6 @@ use Rattle.pieces.proofs.Splicing as splicing
 use Rattle.block_value.specs.Value.{sizeOf, made, largestPower, readOf}
 use Rattle.negotiation.specs.Negotiation.{requestBlock, negotiated, replyAt}
 use Rattle.negotiation.specs.Negotiation as negotiation
-use Rattle.block_value.proofs.Laws.{size-least, size-most}
 use Rattle.negotiation.specs.declared.MaybeBlock.the-variants.{Absent, Given}
 use Rattle.negotiation.specs.declared.Negotiated.the-variants.{Block}
 use Rattle.block_state.specs.declared.Config.{Config}

@@ -6,7 +6,7 @@ use mathlib.Core.List.{List, [], _++_}
 use native.Mathlib.Omega.{arith}
 use native.Mathlib.Nat.{mul-div-cancel}
 use lib.ListN.{length, take, length-append}
-use lib.Dec.{ltb, eqb}
+use lib.Dec.{eqb}
 use borrow.Author.Tests.{le-ltb, eq-eqb, ne-eqb}
 use Rattle.pieces.specs.Memory.{patch, part}
 use Rattle.pieces.specs.Splice.{splicedLength, spliceOf, pieceAfter}
@@ -16,7 +16,7 @@ use Rattle.pieces.proofs.Splicing.{spliced-next}
 use Rattle.pieces.proofs.Splicing as splicing
 use Rattle.block_value.specs.Value.{sizeOf}
 use Rattle.block_value.proofs.Laws.{size-least, size-most, exponent-size, made-well}
-use Rattle.negotiation.specs.Negotiation.{requestBlock, replyOf, within, negotiated}
+use Rattle.negotiation.specs.Negotiation.{requestBlock, replyOf, negotiated}
 use Rattle.negotiation.specs.declared.MaybeBlock.the-variants.{Absent, Given}
 use Rattle.negotiation.specs.declared.Negotiated.the-variants.{Block}
 use Rattle.negotiation.proofs.Laws.{with-room, given-at, reply-made}
@@ -26,7 +26,7 @@ use Rattle.block_state.specs.declared.BlockState.{BlockState}
 use Rattle.block_state.specs.declared.Answer.the-variants.{Continue, Handed}
 use Rattle.block_state.specs.Message.{Request}
 use Rattle.block_state.specs.State.{assembly, withAssembled, withRecorded}
-use Rattle.block_state.specs.Step.{left, bytesFrom, badForm, notNext, lengthMet, taken, spliced, stepRequest}
+use Rattle.block_state.specs.Step.{left, bytesFrom, badForm, notNext, lengthMet, taken, stepRequest}
 use Rattle.block_state.proofs.Steps.{onward-absent, taken-more, taken-last, spliced-body, given-next, request-given}
 use Rattle.demands.specs.Demand3.{block, Fills}
 

@@ -1,5 +1,5 @@
 -- What demand 3 asks for can be given, and the four shams break it. Assumes nothing.
-use Prim.Native.Nat.{ℕ, zero, suc, _+_, _-_, _<_}
+use Prim.Native.Nat.{ℕ, zero, suc, _+_, _-_}
 use mathlib.Core.Bool.{Bool, true, false, _&&_}
 use mathlib.Core.Path.{_≡_, refl, sym, _∙_, ap}
 use mathlib.Core.Logic.{inr}
@@ -18,7 +18,7 @@ use Rattle.negotiation.specs.declared.MaybeBlock.the-variants.{Given}
 use Rattle.block_state.specs.declared.Part.{Part}
 use Rattle.block_state.specs.declared.Answer.{Answer}
 use Rattle.block_state.specs.declared.Answer.the-variants.{Continue, TooLarge, Handed, Pass, Served, Plain, Whole, First, Refused}
-use Rattle.block_state.specs.Answers.{said, continue, handed, pass, refusal}
+use Rattle.block_state.specs.Answers.{said, continue, handed}
 use Rattle.block_state.specs.State as state
 use Rattle.block_state.specs.Step as step
 use Rattle.block_state.proofs.Tests.{by-cases, on-test, clash-of}
@@ -28,7 +28,7 @@ use Rattle.block_table.specs.Table as table
 use Rattle.block_handler.specs.Call as h
 use Rattle.block_handler.specs.Parts.{partOf, bodyOf}
 use Rattle.demands.specs.Demand3.{Handler, HasFree, NothingInPlain, Given3, Demand3, callOn, block}
-use Rattle.demands.specs.Shams.{config, fresh, key, sent, firstBlock, lastBlock, later, CanBeGiven, RefusesAll, PassesAll, StoresNothing, HandsAtZero, Broken, Excluded, Exist}
+use Rattle.demands.specs.Shams.{config, fresh, key, sent, firstBlock, lastBlock, later, CanBeGiven, Excluded, Exist}
 
 -- ---- what is given can be given
 

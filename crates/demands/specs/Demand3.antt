@@ -128,37 +128,27 @@ pub record Push (c : Config) (w : World) (k : List ℕ) (x : ℕ) (first : Sent)
   -- configuration, both memories, the key and the table are within the limits. (The later blocks have the same key. That their lengths are
   -- within the limits is not assumed: it follows from `room`, since T is at most 65,535.)
   pub limits : withinLimits c w (callOn k first) ≡ true
-
   -- Granted by what a table and bytes are: a table has sixteen entries, and an option's bytes are below 256.
   pub sixteen : length (w .table .entries) ≡ 16
   pub bytes : AllBytes (callOn k first ∷ later)
-
   -- "Its client sends blocks 0 to n-1 in order, n from 1 to 4096", where n is the length of first ∷ rest;
   -- "all .. marked "more" but the last, which is .. unmarked": what the Block1 option of each reads as.
   pub count : length (first ∷ rest) ≤ 4096
   pub numbered : Each (λ j more r. requestBlock (r .block1) ≡ Given (block j more x)) 0 first rest
-
   -- "One size from 16 to 1024 bytes": 2 to the power x + 4.
   pub size : x ≤ 6
-
   -- "All full .. but the last, which is no longer".
   pub full : Each (λ j more r. Fills more (length (r .payload)) (sizeOf x)) 0 first rest
-
   -- "None carries Block2": none, or one that is unreadable and so counts as absent.
   pub alone : Each (λ j more r. requestBlock (r .block2) ≡ Absent) 0 first rest
-
   -- "Each message leaves room for that size". Document 01: ""leaves room" means bare + 12 + size <= T".
   pub room : Each (λ j more r. r .bare + 12 + sizeOf x ≤ c .limit) 0 first rest
-
   -- "The body fits its piece".
   pub fits : length (joined first rest) ≤ c .upload
-
   -- "The clock never goes back".
   pub clock : Rising (w .table .clock) (callOn k first ∷ later)
-
   -- "Each call on the key comes sooner than one lifetime after the last".
   pub prompt : Prompt (c .lifetime) (first .time) rest
-
   -- "With any calls for other keys between them and none other for this one".
   pub own : callsOn k later ≡ map (callOn k) rest
 
@@ -166,10 +156,8 @@ pub record Push (c : Config) (w : World) (k : List ℕ) (x : ℕ) (first : Sent)
 pub record Given3 (c : Config) (w : World) (k : List ℕ) (x : ℕ) (first : Sent) (rest : List Sent) (later : List Call) : Type 0 where
   -- "Take a key with a live entry or a free one to take ..
   pub entry : HasLive c w (first .time) k ⊎ HasFree c w (first .time)
-
   -- .. and, in plain mode, nothing assembled."
   pub nothing : NothingInPlain c w (first .time) k
-
   pub push : Push c w k x first rest later
 
 -- ---- What is promised
