@@ -122,7 +122,7 @@ NothingInPlain c w time k =
 -- ---- What is given
 
 -- The run is block `first` and then the calls `later`: the rest of the client's blocks, and calls for other keys "between them" (or after the
--- last). Those are any requests and responses at all, with any numbers and bytes, such as get a refusal among them.
+-- last). Those are any requests and responses at all, with any numbers and bytes, also such as are refused or start other uploads.
 pub record Push (c : Config) (w : World) (k : List ℕ) (x : ℕ) (first : Sent) (rest : List Sent) (later : List Call) : Type 0 where
   -- Document 01: "the first table and the key's own calls keep to this document's limits": no refusal 1 for the first block, so that the
   -- configuration, both memories, the key and the table are within the limits. (The later blocks have the same key. That their lengths are
@@ -145,9 +145,9 @@ pub record Push (c : Config) (w : World) (k : List ℕ) (x : ℕ) (first : Sent)
   pub room : Each (λ j more r. r .bare + 12 + sizeOf x ≤ c .limit) 0 first rest
   -- "The body fits its piece".
   pub fits : length (joined first rest) ≤ c .upload
-  -- "The clock never goes back".
+  -- "The clock never goes back": the first block is not before the recorded clock, nor any call before the one that went ahead of it.
   pub clock : Rising (w .table .clock) (callOn k first ∷ later)
-  -- "Each call on the key comes sooner than one lifetime after the last".
+  -- "Each call on the key comes sooner than one lifetime after the last". (The first finds a live entry, or takes a free one: `entry`.)
   pub prompt : Prompt (c .lifetime) (first .time) rest
   -- "With any calls for other keys between them and none other for this one".
   pub own : callsOn k later ≡ map (callOn k) rest
