@@ -1,3 +1,4 @@
 pub mod Parted
 pub mod Judged
 pub mod Meanings
+pub mod Frame

@@ -14,7 +14,6 @@ use Rattle.pieces.specs.Splice as pieces
 use Rattle.pieces.specs.declared.Splice.{Splice}
 use Rattle.pieces.proofs.Memory.{length-patch}
 use Rattle.pieces.proofs.Splicing.{length-spliced}
-use Rattle.block_value.specs.Rfc7959.{Bytes}
 use Rattle.block_value.specs.Value.{blockSize, blockStart, readOf}
 use Rattle.block_value.specs.declared.BlockValue.{BlockValue}
 use Rattle.negotiation.specs.Negotiation.{requestBlock, negotiated}
@@ -30,17 +29,13 @@ use Rattle.block_state.specs.declared.Assembled.{Assembled}
 use Rattle.block_state.specs.declared.BlockState.{BlockState}
 use Rattle.block_state.specs.declared.Answer.{Answer}
 use Rattle.block_state.specs.declared.Answer.the-variants.{Continue, TooLarge, Handed, Pass, Plain, Whole, Refused}
-use Rattle.block_state.specs.Message.{Request, Response}
+use Rattle.block_state.specs.Message.{OptionBytes, Request, Response}
 use Rattle.block_state.specs.State.{assembly, recordedBlock, withAssembled, withRecorded}
 use Rattle.block_state.specs.Step.{Left, left, bytesFrom, badForm, notNext, lengthMet, served, onward, taken, onSplice, block1Given, onNegotiated, stepRequest, chunked, onReply, stepResponse}
 use Rattle.block_state.proofs.Tests.{on-test}
 use Rattle.block_state.proofs.Fits.{StateFits, assembled-most, assembly-ok, kept-ok, caching-ok, Held, recording-ok}
 
 -- ---- what an option can hold
-
-abbrev pub OptionBytes : Option (List ℕ) → Type 0
-OptionBytes none = Unit {0}
-OptionBytes (some bytes) = Bytes bytes
 
 pub read-held : (o : Option (List ℕ)) → OptionBytes o → Held 4095 (requestBlock o)
 unfolding requestBlock readOf

@@ -1,9 +1,10 @@
--- Document 01, "Examples on each side", cases 1 to 10, as one table over the definitions: each row says what is computed and what the document says.
+-- Document 01, "Examples on each side", cases 1 to 12, as one table over the definitions: each row says what is computed and what the document says.
 use Prim.Native.Nat.{ℕ}
 use mathlib.Core.Bool.{Bool, true, false}
 use mathlib.Core.Path.{_≡_}
 use mathlib.Core.List.{List, [], _∷_, _++_}
-use lib.ListN.{length, replicate}
+use mathlib.Core.Option.{none, some}
+use lib.ListN.{take, replicate}
 use Rattle.block_value.specs.Value.{made, sizeOf, blockSize, blockStart, readOf}
 use Rattle.block_value.specs.declared.BlockValue.{BlockValue}
 use Rattle.block_value.specs.declared.Made.{Made}
@@ -20,9 +21,14 @@ use Rattle.negotiation.specs.declared.Chunk.the-variants as chunk
 use Rattle.pieces.specs.Splice.{spliceOf, spliced}
 use Rattle.pieces.specs.declared.Splice.{Splice}
 use Rattle.pieces.specs.declared.Splice.the-variants as splice
-
-abbrev pub block : ℕ → Bool → ℕ → BlockValue
-block num more exponent = record { num = num; more = more; «size_exponent» = exponent }
+use Rattle.block_state.specs.declared.Config.{Config}
+use Rattle.block_state.specs.declared.BlockState.{BlockState}
+use Rattle.block_state.specs.declared.Answer.{Answer}
+use Rattle.block_state.specs.declared.Answer.the-variants as answer
+use Rattle.block_state.specs.Message.{Request}
+use Rattle.block_state.specs.State.{assembly, nothing, withAssembled}
+use Rattle.block_state.specs.Step.{Left, bytesFrom, stepRequest}
+use Rattle.demands.specs.Demand3.{block}
 
 pub data Row : Type 0 where
   makes : Made → Made → Row
@@ -32,6 +38,7 @@ pub data Row : Type 0 where
   chunks : Chunk → Chunk → Row
   lists : List ℕ → List ℕ → Row
   number : ℕ → ℕ → Row
+  answers : Answer → Answer → Row
 
 abbrev pub Says : Row → Type 0
 Says (makes a b) = a ≡ b
@@ -41,6 +48,7 @@ Says (splices a b) = a ≡ b
 Says (chunks a b) = a ≡ b
 Says (lists a b) = a ≡ b
 Says (number a b) = a ≡ b
+Says (answers a b) = a ≡ b
 
 abbrev pub AllSay : List Row → Type 0
 AllSay [] = Unit {0}
@@ -49,6 +57,26 @@ AllSay (r ∷ rest) = Says r × AllSay rest
 -- The splice's answer to block b, where l bytes are assembled in a piece of u, for a payload of p.
 abbrev pub spliceOfBlock : ℕ → ℕ → BlockValue → ℕ → Splice
 spliceOfBlock u l b p = spliceOf u l (blockStart b) (blockSize b) p
+
+-- A request's step in either mode, T 1152 and U 64, on a piece that begins at 0: its Block1 option is these bytes, and it has no Block2.
+abbrev pub config : Bool → Config
+config strict = record { strict = strict; limit = 1152; lifetime = 120000; upload = 64; response = 64 }
+
+abbrev pub asked : List ℕ → List ℕ → Request
+asked option payload = record { bare = 20; block1 = some option; block2 = none; payload = payload }
+
+abbrev pub step : Bool → BlockState → List ℕ → List ℕ → List ℕ → Left
+step strict s piece option payload = stepRequest (config strict) 0 0 s piece (asked option payload)
+
+-- Case 11: 64 bytes are assembled, all of them 1, and the new blocks are 16 bytes 2 and 16 bytes 3.
+abbrev pub old : BlockState
+old = withAssembled nothing (assembly 64 0)
+
+abbrev pub afterFirst : Left
+afterFirst = step false old (replicate 64 1) (0x08 ∷ []) (replicate 16 2)
+
+abbrev pub afterLast : Left
+afterLast = step false (afterFirst .state) (afterFirst .piece) (0x10 ∷ []) (replicate 16 3)
 
 abbrev pub cases : List Row
 cases =
@@ -87,4 +115,10 @@ cases =
     -- 10. n 32, size 16: num 1 served, no more; num 2 refusal 8.
     ∷ chunks (chunkOf (block 1 true 0) 32) (chunk.Bytes (block 1 false 0) 16 32)
     ∷ chunks (chunkOf (block 2 true 0) 32) (chunk.Refused 8)
+    -- 11. L 64, blocks 0 and last 1 of 16 full bytes, plain: body 64 long, bytes 32 to 63 old.
+    ∷ answers (afterFirst .answer) (answer.Continue (block 0 false 0))
+    ∷ answers (afterLast .answer) (answer.Handed (block 1 false 0) (bytesFrom 0 64))
+    ∷ lists (take 64 (afterLast .piece)) (replicate 16 2 ++ replicate 16 3 ++ replicate 32 1)
+    -- 12. Strict, nothing assembled, num 1: refusal 9.
+    ∷ answers (step true nothing (replicate 64 1) (0x18 ∷ []) (replicate 16 2) .answer) (answer.Refused 9)
     ∷ []

@@ -1,0 +1,128 @@
+-- Plain mode keeps an old list's tail, and strict mode does not. Assumes nothing.
+use Prim.Native.Nat.{ℕ, _+_, _-_, _*_, _≤_}
+use mathlib.Core.Bool.{Bool, true, false}
+use mathlib.Core.Path.{_≡_, refl, sym, _∙_, ap}
+use mathlib.Core.Logic.{inl}
+use mathlib.Core.List.{List, _++_, append-nil}
+use native.Mathlib.Nat.{zero-add, zero-mul, one-mul}
+use native.Mathlib.Omega.{arith}
+use lib.ListN.{length, take, drop}
+use lib.Seq.{drop-drop, take-at, drop-at, length-take-le}
+use Rattle.pieces.specs.Memory.{patch, part, pieceOf, putPiece}
+use Rattle.pieces.specs.Splice.{splicedLength, spliceOf, pieceAfter}
+use Rattle.pieces.specs.Splice as pieces
+use Rattle.pieces.specs.declared.Splice.the-variants.{Body}
+use Rattle.pieces.proofs.Memory.{drop-part}
+use Rattle.pieces.proofs.Splicing as splicing
+use Rattle.block_value.specs.Value.{sizeOf, made, largestPower, readOf}
+use Rattle.negotiation.specs.Negotiation.{requestBlock, negotiated, replyAt}
+use Rattle.negotiation.specs.Negotiation as negotiation
+use Rattle.negotiation.specs.declared.MaybeBlock.the-variants.{Absent, Given}
+use Rattle.negotiation.specs.declared.Negotiated.the-variants.{Block}
+use Rattle.block_state.specs.declared.Config.{Config}
+use Rattle.block_state.specs.declared.BlockState.{BlockState}
+use Rattle.block_state.specs.declared.Answer.the-variants.{Continue, Handed}
+use Rattle.block_state.specs.Message.{Request}
+use Rattle.block_state.specs.State.{assembly, withAssembled, withRecorded}
+use Rattle.block_state.specs.Step.{Left, left, bytesFrom, lengthMet, taken, stepRequest}
+use Rattle.block_state.proofs.Steps.{onward-absent, taken-more, taken-last, spliced-body, given-next, request-given}
+use Rattle.block_state.proofs.Tests.{clash-of}
+use Rattle.block_state.specs.State as state
+use Rattle.block_state.specs.Step as step
+use Rattle.block_table.specs.Keys as keys
+use Rattle.block_table.specs.Table as table
+use Rattle.block_handler.specs.Call.{call}
+use Rattle.block_handler.specs.Call as h
+use Rattle.block_handler.specs.Parts.{partOf}
+use Rattle.demands.specs.Demand3.{block, Demand3}
+use Rattle.demands.specs.Incident.{Carries, once, twice, TailKept, Story, StartsAfresh}
+use Rattle.demands.proofs.OwnStep.{room-agreed, held-after}
+use Rattle.demands.proofs.Demand3.{demand3}
+
+-- ---- strict mode
+
+pub starts-afresh : StartsAfresh call
+unfolding StartsAfresh Demand3
+starts-afresh c w k x first rest later strict o p =
+    demand3 c w k x first rest later
+    (record { entry = inl o; nothing = λ plain. absurd (clash-of (c .strict) strict plain); push = p })
+
+-- ---- plain mode
+
+-- a block that lies within what is assembled, and is as long as the range it replaces, leaves the length
+module _ (c : Config) (home at : ℕ) (s : BlockState) (u : List ℕ) (x j a l : ℕ) (m : Bool) (r : Request) (plain : c .strict ≡ false) (hx : x ≤ 6)
+    (hj : j ≤ 65535) (start : j * sizeOf x ≡ a) (hl : s .assembled .len ≡ l) (inside : a + sizeOf x ≤ l) (fits : l ≤ c .upload) (h : Carries c x j m r) where
+  within : stepRequest c home at s u r
+      ≡ taken home at s (patch u 0 (pieces.spliced (take l u) a (sizeOf x) (r .payload))) Absent (block j m x) (block j false x) l
+  unfolding pieceAfter lengthMet
+  within =
+      let p : ℕ = length (r .payload) in
+      let reply = room-agreed j m x (r .bare) p (c .limit) hj (omega arith) (omega (arith, h .full)) (h .room) in
+      let n : splicedLength l a (sizeOf x) p ≡ l = omega (arith, h .full) in
+      request-given c home at s u r (Given (block j m x)) Absent (Block (block j false x)) (sym (h .numbered)) (sym (h .alone)) (sym reply) (block j m x) (block j false x) refl refl
+      ∙ given-next c home at s u Absent (r .payload) (block j m x) (block j false x) (rw plain) (rw plain) l (rw plain (sym hl))
+      ∙ spliced-body home at s u Absent (r .payload) (block j m x) (block j false x) l _ l
+      (rw start (splicing.taken (c .upload) l a (sizeOf x) p (omega arith) (omega arith) ∙ ap Body n))
+      ∙ rw start
+
+-- the two splices: the new payloads, and behind them what stood there
+module _ (u : List ℕ) (l size : ℕ) (p q : List ℕ) (hp : length p ≡ size) (hq : length q ≡ size) (h : size + size ≤ l) (hu : l ≤ length u) where
+  long : length (take l u) ≡ l
+  long = length-take-le l u hu
+
+  one : pieces.spliced (take l u) 0 size p ≡ p ++ drop size (take l u)
+  unfolding pieces.spliced
+  one =
+      let z : 0 - length (take l u) ≡ 0 = omega arith in
+      rw (z, zero-add)
+
+  one-length : length (pieces.spliced (take l u) 0 size p) ≡ l
+  one-length = splicing.length-spliced (take l u) 0 size p ∙ rw (long, hp) (omega arith)
+
+  two : pieces.spliced (pieces.spliced (take l u) 0 size p) size size q ≡ p ++ q ++ part u (size + size) (l - (size + size))
+  unfolding pieces.spliced part
+  two =
+      let d : List ℕ = drop size (take l u) in
+      let n : length (p ++ d) ≡ l = sym (ap length one) ∙ one-length in
+      let z : size - length (p ++ d) ≡ 0 = omega arith in
+      let tail : drop (size + size) (p ++ d) ≡ part u (size + size) (l - (size + size)) =
+      sym (drop-drop size size (p ++ d)) ∙ ap (drop size) (drop-at p d size hp) ∙ drop-drop size size (take l u) ∙ drop-part u 0 l (size + size) h (omega arith) ∙ rw zero-add in
+      ap (λ (b : List ℕ). pieces.spliced b size size q) one
+      ∙ rw (z, take-at p d size hp, append-nil p, tail)
+
+  two-length : length (pieces.spliced (pieces.spliced (take l u) 0 size p) size size q) ≡ l
+  two-length = splicing.length-spliced (pieces.spliced (take l u) 0 size p) size size q ∙ rw (one-length, hq) (omega arith)
+
+pub tail-kept : TailKept
+unfolding TailKept
+tail-kept c home at s u x l first last plain hx hl h fits hu f g =
+    let size : ℕ = sizeOf x in
+    let p : List ℕ = first .payload in
+    let q : List ℕ = last .payload in
+    let hu′ : l ≤ length u = omega arith in
+    let b₁ : List ℕ = pieces.spliced (take l u) 0 size p in
+    let b₂ : List ℕ = pieces.spliced b₁ size size q in
+    let n₁ : length b₁ ≡ l = one-length u l size p q (f .full) (g .full) h hu′ in
+    let n₂ : length b₂ ≡ l = two-length u l size p q (f .full) (g .full) h hu′ in
+    let s₁ : BlockState = withAssembled s (assembly l x) in
+    let u₁ : List ℕ = patch u 0 b₁ in
+    let held : take l u₁ ≡ b₁ = rw n₁ at (held-after u b₁) in
+    let e₁ : once c home at s u first ≡ left s₁ u₁ (Continue (block 0 false x)) =
+    within c home at s u x 0 0 l true first plain hx (omega arith) (zero-mul size) hl (omega arith) fits f
+    ∙ taken-more home at s u₁ Absent (block 0 true x) (block 0 false x) l refl in
+    let e₂ : stepRequest c home at s₁ u₁ last ≡ left (withRecorded (withAssembled s₁ (assembly 0 0)) Absent) (patch u₁ 0 b₂) (Handed (block 1 false x) (bytesFrom home l)) =
+    within c home at s₁ u₁ x 1 size l false last plain hx (omega arith) (one-mul size) refl (omega arith) fits g
+    ∙ rw held
+    (taken-last home at s₁ (patch u₁ 0 b₂) Absent (block 1 false x) (block 1 false x) l refl
+    ∙ onward-absent at (withAssembled s₁ (assembly 0 0)) (patch u₁ 0 b₂) Absent (Given (block 1 false x)) (Handed (block 1 false x) (bytesFrom home l)) refl) in
+    let e : twice c home at s u first last ≡ left (withRecorded (withAssembled s₁ (assembly 0 0)) Absent) (patch u₁ 0 b₂) (Handed (block 1 false x) (bytesFrom home l)) =
+    ap (λ (v : Left). stepRequest c home at (v .state) (v .piece) last) e₁ ∙ e₂ in (
+      ap (λ (v : Left). v .answer) e₁,
+      ap (λ (v : Left). v .answer) e,
+      ap (λ (v : Left). take l (v .piece)) e ∙ (rw n₂ at (held-after u₁ b₂)) ∙ two u l size p q (f .full) (g .full) h hu′,
+    )
+
+-- the same by whole calls, by computation
+pub story : Story
+unfolding h.call h.withinLimits h.configOk h.memoriesOk h.whatOk h.callAt keys.same keys.keyOk keys.keyOf keys.storedOk keys.stored keys.isNoKey table.holds table.entryOk table.clash table.distinct table.tableOk table.live table.swept table.sweep table.place table.opened state.assembledOk state.cachedOk state.recordedOk state.stateOk state.isNothing step.badForm step.notNext step.lengthMet step.onward step.taken step.spliced step.block1Given step.onNegotiated step.stepRequest requestBlock readOf negotiated negotiation.within replyAt made largestPower sizeOf spliceOf pieces.spliced pieceAfter patch part pieceOf putPiece partOf
+story = record { plain = (refl, (refl, refl)); strict = (refl, (refl, refl)) }

@@ -1,0 +1,174 @@
+-- DEMAND 3, of any handler and any run. The words in quotes are the demand's, or document 01's where that says so. The demand asks that a
+-- client's blocks are handed on exactly, whatever calls for other keys stand between them. It is proved of the definition of a call in
+-- proofs/Demand3.antt, and of whatever satisfies the calls' contracts in proofs/Compiled.antt.
+use Prim.Native.Nat.{ℕ, suc, _+_, _≤_, _<_}
+use mathlib.Core.Bool.{Bool, true, false, cond}
+use mathlib.Core.Path.{_≡_}
+use mathlib.Core.Logic.{_⊎_}
+use mathlib.Core.List.{List, [], _∷_, _++_, map}
+use lib.ListN.{length}
+use Rattle.block_value.specs.Value.{sizeOf}
+use Rattle.block_value.specs.declared.BlockValue.{BlockValue}
+use Rattle.negotiation.specs.Negotiation.{requestBlock}
+use Rattle.negotiation.specs.declared.MaybeBlock.the-variants.{Absent, Given}
+use Rattle.block_state.specs.declared.Config.{Config}
+use Rattle.block_state.specs.declared.Answer.{Answer}
+use Rattle.block_state.specs.Message.{Request, What, request, response, WhatBytes}
+use Rattle.block_state.specs.Answers.{said, continue, handed}
+use Rattle.block_table.specs.declared.Entry.{Entry}
+use Rattle.block_table.specs.Keys.{same}
+use Rattle.block_table.specs.Table.{holds, live, at}
+use Rattle.block_handler.specs.Call.{World, Call, Done, withinLimits}
+use Rattle.block_handler.specs.Parts.{bodyOf}
+
+-- ---- A handler, and what is seen of its run
+
+-- Any function from the configuration, the table and memories, and a call, to what is left of them and the answer.
+abbrev pub Handler : Type 0
+Handler = Config → World → Call → Done
+
+-- Of one call: its key, its answer, and the body that is then shown, of the call's own payload and the upload memory that it left.
+pub record Seen : Type 0 where
+  pub key : List ℕ
+  pub answer : Answer
+  pub shown : List ℕ
+
+abbrev pub payloadOf : What → List ℕ
+payloadOf (request r) = r .payload
+payloadOf (response r) = r .payload
+
+abbrev pub seen : Call → Done → Seen
+seen q d = record { key = q .key; answer = d .answer; shown = bodyOf (d .answer) (payloadOf (q .what)) (d .world .upload) }
+
+-- Document 01: "every call gets the configuration, table and memories that the call before it left".
+abbrev pub run : Handler → Config → World → List Call → List Seen
+run h c w [] = []
+run h c w (q ∷ calls) = seen q (h c w q) ∷ run h c (h c w q .world) calls
+
+-- The calls on key k, in order, and what was seen of them.
+abbrev pub callsOn : List ℕ → List Call → List Call
+callsOn k [] = []
+callsOn k (q ∷ calls) = cond (same k (q .key)) (q ∷ callsOn k calls) (callsOn k calls)
+
+abbrev pub seenOn : List ℕ → List Seen → List Seen
+seenOn k [] = []
+seenOn k (s ∷ rest) = cond (same k (s .key)) (s ∷ seenOn k rest) (seenOn k rest)
+
+-- ---- The client's blocks: `first`, and then those of the list `rest`
+
+-- A block as it is sent: when, and the request that carries it.
+pub record Sent : Type 0 where
+  pub time : ℕ
+  pub message : Request
+
+abbrev pub callOn : List ℕ → Sent → Call
+callOn k s = record { time = s .time; key = k; what = request (s .message) }
+
+-- The block value of num j, with or without more, of size 2 to the power x + 4.
+abbrev pub block : ℕ → Bool → ℕ → BlockValue
+block j more x = record { num = j; more = more; «size_exponent» = x }
+
+-- Something holds of each block: of its number, counted from j, of whether another follows, and of its request.
+abbrev pub Each : (ℕ → Bool → Request → Type 0) → ℕ → Sent → List Sent → Type 0
+Each P j s [] = P j false (s .message)
+Each P j s (t ∷ rest) = P j true (s .message) × Each P (suc j) t rest
+
+-- A payload of p bytes in a block of `size`: full if another block follows; else "no longer".
+abbrev pub Fills : Bool → ℕ → ℕ → Type 0
+Fills true p size = p ≡ size
+Fills false p size = p ≤ size
+
+-- "The joined blocks": all their payloads, one after another.
+abbrev pub joined : Sent → List Sent → List ℕ
+joined s [] = s .message .payload
+joined s (t ∷ rest) = s .message .payload ++ joined t rest
+
+-- Each block's time is less than one lifetime past the time of the one before it.
+abbrev pub Prompt : ℕ → ℕ → List Sent → Type 0
+Prompt lifetime last [] = Unit {0}
+Prompt lifetime last (s ∷ rest) = (s .time < last + lifetime) × Prompt lifetime (s .time) rest
+
+-- ---- All calls of the run, those for other keys too
+
+-- No call's time is before that of the call before it; t is where the clock stands.
+abbrev pub Rising : ℕ → List Call → Type 0
+Rising t [] = Unit {0}
+Rising t (q ∷ calls) = (t ≤ q .time) × Rising (q .time) calls
+
+abbrev pub AllBytes : List Call → Type 0
+AllBytes [] = Unit {0}
+AllBytes (q ∷ calls) = WhatBytes (q .what) × AllBytes calls
+
+-- ---- The key's entry, when its first block comes at this time
+
+abbrev pub entryAt : World → ℕ → Entry
+entryAt w i = at (w .table .entries) i
+
+-- "A live entry": one of the sixteen is in use for the key, and live.
+abbrev pub HasLive : Config → World → ℕ → List ℕ → Type 0
+HasLive c w time k =
+    (i : ℕ) × (i < 16) × (holds k (entryAt w i) ≡ true) × (live (c .lifetime) time (entryAt w i) ≡ true)
+
+-- "A free one to take": one of the sixteen is not in use, or no longer live. (A call first frees every entry that is not live.)
+abbrev pub HasFree : Config → World → ℕ → Type 0
+HasFree c w time = (i : ℕ) × (i < 16) × (live (c .lifetime) time (entryAt w i) ≡ false)
+
+-- "In plain mode, nothing assembled": if the key has a live entry, its assembled length is 0. In strict mode nothing is asked.
+abbrev pub NothingInPlain : Config → World → ℕ → List ℕ → Type 0
+NothingInPlain c w time k =
+    c .strict ≡ false → (i : ℕ) → i < 16 → holds k (entryAt w i) ≡ true → live (c .lifetime) time (entryAt w i) ≡ true
+    → entryAt w i .state .assembled .len ≡ 0
+
+-- ---- What is given
+
+-- The run is block `first` and then the calls `later`: the rest of the client's blocks, and calls for other keys "between them" (or after the
+-- last). Those are any requests and responses at all, with any numbers and bytes, also such as are refused or start other uploads.
+pub record Push (c : Config) (w : World) (k : List ℕ) (x : ℕ) (first : Sent) (rest : List Sent) (later : List Call) : Type 0 where
+  -- Document 01: "the first table and the key's own calls keep to this document's limits": no refusal 1 for the first block, so that the
+  -- configuration, both memories, the key and the table are within the limits. (The later blocks have the same key. That their lengths are
+  -- within the limits is not assumed: it follows from `room`, since T is at most 65,535.)
+  pub limits : withinLimits c w (callOn k first) ≡ true
+  -- Granted by what a table and bytes are: a table has sixteen entries, and an option's bytes are below 256.
+  pub sixteen : length (w .table .entries) ≡ 16
+  pub bytes : AllBytes (callOn k first ∷ later)
+  -- "Its client sends blocks 0 to n-1 in order, n from 1 to 4096", where n is the length of first ∷ rest;
+  -- "all .. marked "more" but the last, which is .. unmarked": what the Block1 option of each reads as.
+  pub count : length (first ∷ rest) ≤ 4096
+  pub numbered : Each (λ j more r. requestBlock (r .block1) ≡ Given (block j more x)) 0 first rest
+  -- "One size from 16 to 1024 bytes": 2 to the power x + 4.
+  pub size : x ≤ 6
+  -- "All full .. but the last, which is no longer".
+  pub full : Each (λ j more r. Fills more (length (r .payload)) (sizeOf x)) 0 first rest
+  -- "None carries Block2": none, or one that is unreadable and so counts as absent.
+  pub alone : Each (λ j more r. requestBlock (r .block2) ≡ Absent) 0 first rest
+  -- "Each message leaves room for that size". Document 01: ""leaves room" means bare + 12 + size <= T".
+  pub room : Each (λ j more r. r .bare + 12 + sizeOf x ≤ c .limit) 0 first rest
+  -- "The body fits its piece".
+  pub fits : length (joined first rest) ≤ c .upload
+  -- "The clock never goes back": the first block is not before the recorded clock, nor any call before the one that went ahead of it.
+  pub clock : Rising (w .table .clock) (callOn k first ∷ later)
+  -- "Each call on the key comes sooner than one lifetime after the last". (The first finds a live entry, or takes a free one: `entry`.)
+  pub prompt : Prompt (c .lifetime) (first .time) rest
+  -- "With any calls for other keys between them and none other for this one".
+  pub own : callsOn k later ≡ map (callOn k) rest
+
+-- The whole of it. "In either mode": nothing is said of c .strict but in `nothing`.
+pub record Given3 (c : Config) (w : World) (k : List ℕ) (x : ℕ) (first : Sent) (rest : List Sent) (later : List Call) : Type 0 where
+  -- "Take a key with a live entry or a free one to take ..
+  pub entry : HasLive c w (first .time) k ⊎ HasFree c w (first .time)
+  -- .. and, in plain mode, nothing assembled."
+  pub nothing : NothingInPlain c w (first .time) k
+  pub push : Push c w k x first rest later
+
+-- ---- What is promised
+
+-- "The first n-1 are answered Continue, and the nth hands on exactly the joined blocks": these bytes, as the body that is shown.
+abbrev pub HandsOn : List ℕ → List Seen → Type 0
+HandsOn bytes [] = ⊥
+HandsOn bytes (s ∷ []) = (said (s .answer) .kind ≡ handed) × (s .shown ≡ bytes)
+HandsOn bytes (s ∷ t ∷ rest) = (said (s .answer) .kind ≡ continue) × HandsOn bytes (t ∷ rest)
+
+unfoldable pub Demand3 : Handler → Type 0
+Demand3 h =
+    (c : Config) (w : World) (k : List ℕ) (x : ℕ) (first : Sent) (rest : List Sent) (later : List Call) → Given3 c w k x first rest later
+    → HandsOn (joined first rest) (seenOn k (run h c w (callOn k first ∷ later)))

@@ -1,0 +1,131 @@
+-- Demand 3 is no empty promise: what it asks for can be given, in both modes, and the four sham handlers of document 01 break it.
+use Prim.Native.Nat.{ℕ}
+use mathlib.Core.Bool.{Bool, false, cond}
+use mathlib.Core.Path.{_≡_}
+use mathlib.Core.List.{List, [], _∷_, map}
+use mathlib.Core.Option.{none, some}
+use lib.ListN.{replicate}
+use lib.Dec.{eqb}
+use Rattle.negotiation.specs.Negotiation.{requestBlock}
+use Rattle.negotiation.specs.declared.MaybeBlock.{MaybeBlock}
+use Rattle.negotiation.specs.declared.MaybeBlock.the-variants.{Absent, Given}
+use Rattle.block_state.specs.declared.Config.{Config}
+use Rattle.block_state.specs.declared.Answer.{Answer}
+use Rattle.block_state.specs.declared.Answer.the-variants.{Continue, Handed, Pass, Refused}
+use Rattle.block_state.specs.Message.{What, request, response}
+use Rattle.block_state.specs.Answers.{Kind, said, continue, handed, pass, first, refusal}
+use Rattle.block_state.specs.Step.{bytesFrom}
+use Rattle.block_table.specs.Table.{freshTable}
+use Rattle.block_handler.specs.Call.{World, Call, done, call}
+use Rattle.demands.specs.Demand3.{Handler, Seen, run, Sent, callOn, block, Given3, Demand3}
+
+-- ---- What is given can be given
+
+-- A fresh table, with pieces of 32 and 64 bytes.
+abbrev pub config : Bool → Config
+config strict = record { strict = strict; limit = 64; lifetime = 100; upload = 32; response = 64 }
+
+abbrev pub fresh : World
+fresh = record { table = freshTable; upload = replicate 512 0; response = replicate 1024 0 }
+
+abbrev pub key : List ℕ
+key = 1 ∷ []
+
+abbrev pub sent : ℕ → List ℕ → List ℕ → Sent
+sent time option payload = record { time = time; message = record { bare = 20; block1 = some option; block2 = none; payload = payload } }
+
+-- Two blocks: one full and marked "more", and a shorter one.
+abbrev pub firstBlock : Sent
+firstBlock = sent 5 (0x08 ∷ []) (replicate 16 65)
+
+abbrev pub lastBlock : Sent
+lastBlock = sent 9 (0x10 ∷ []) (66 ∷ 67 ∷ [])
+
+-- Between them: another key's block, a call with no key, a response for a third key, and a block of the other key's out of order.
+abbrev pub otherKey : Call
+otherKey = callOn (2 ∷ []) (sent 6 (0x08 ∷ []) (replicate 16 90))
+
+abbrev pub noKey : Call
+noKey = callOn [] (sent 7 (0x08 ∷ []) (replicate 16 90))
+
+abbrev pub answering : Call
+answering =
+    record { time = 8; key = 3 ∷ []; what = response (record { bare = 36; own = false; head = 7 ∷ []; payload = replicate 17 67 }) }
+
+abbrev pub outOfOrder : Call
+outOfOrder = callOn (2 ∷ []) (sent 8 (0x28 ∷ []) (replicate 16 91))
+
+abbrev pub later : List Call
+later = otherKey ∷ noKey ∷ answering ∷ outOfOrder ∷ callOn key lastBlock ∷ []
+
+abbrev pub kinds : List Seen → List Kind
+kinds l = map (λ s. said (s .answer) .kind) l
+
+abbrev pub numbers : List Seen → List ℕ
+numbers l = map (λ s. said (s .answer) .number) l
+
+pub record CanBeGiven : Type 0 where
+  -- One block alone, and two blocks with those calls between them, in either mode.
+  pub one : (strict : Bool) → Given3 (config strict) fresh key 0 (sent 5 [] (7 ∷ [])) [] []
+  pub two : (strict : Bool) → Given3 (config strict) fresh key 0 firstBlock (lastBlock ∷ []) later
+  -- The calls between them are all kinds: one is taken, one gets refusal 1, one is cached, and one gets refusal 9, or in plain mode 7.
+  pub between : (strict : Bool)
+      → kinds (run call (config strict) fresh (callOn key firstBlock ∷ later)) ≡ continue ∷ continue ∷ refusal ∷ first ∷ refusal ∷ handed ∷ []
+  pub refusals : (strict : Bool)
+      → numbers (run call (config strict) fresh (callOn key firstBlock ∷ later)) ≡ 0 ∷ 0 ∷ 1 ∷ 0 ∷ cond strict 9 7 ∷ 0 ∷ []
+
+-- ---- The shams: any handler of these four kinds breaks demand 3
+
+-- "One that refuses all (3 excludes it by Continue and Handed)."
+abbrev pub RefusesAll : Handler → Type 0
+RefusesAll h = (c : Config) (w : World) (q : Call) → said (h c w q .answer) .kind ≡ refusal
+
+-- "One that always says Pass (3 again)."
+abbrev pub PassesAll : Handler → Type 0
+PassesAll h = (c : Config) (w : World) (q : Call) → said (h c w q .answer) .kind ≡ pass
+
+-- "One that answers Continue and stores nothing (3, by the joined bytes)": whatever it answers, it leaves the upload memory as it was.
+abbrev pub StoresNothing : Handler → Type 0
+StoresNothing h = (c : Config) (w : World) (q : Call) → h c w q .world .upload ≡ w .upload
+
+-- "One that hands on at block 0 and only nods afterwards (3, since blocks before the last must get Continue)": whatever it does afterwards.
+abbrev pub HandsAtZero : Handler → Type 0
+HandsAtZero h =
+    (c : Config) (w : World) (k : List ℕ) (s : Sent) (more : Bool) (x : ℕ) → requestBlock (s .message .block1) ≡ Given (block 0 more x)
+    → said (h c w (callOn k s) .answer) .kind ≡ handed
+
+abbrev pub Broken : (Handler → Type 0) → Type 0
+Broken Kind = (h : Handler) → Kind h → Demand3 h → ⊥
+
+pub record Excluded : Type 0 where
+  pub refusesAll : Broken RefusesAll
+  pub passesAll : Broken PassesAll
+  pub storesNothing : Broken StoresNothing
+  pub handsAtZero : Broken HandsAtZero
+
+-- There are such handlers. The third answers as it should, and the fourth even stores as it should.
+abbrev pub refuser : Handler
+refuser c w q = done w (Refused 1)
+
+abbrev pub passer : Handler
+passer c w q = done w Pass
+
+abbrev pub forgetter : Handler
+forgetter c w q = done w (call c w q .answer)
+
+abbrev pub nod : MaybeBlock → Answer
+nod Absent = Pass
+nod (Given b) = cond (eqb (b .num) 0) (Handed b (bytesFrom 0 16)) (Continue b)
+
+abbrev pub block1Of : What → MaybeBlock
+block1Of (request r) = requestBlock (r .block1)
+block1Of (response r) = Absent
+
+abbrev pub nodder : Handler
+nodder c w q = done (call c w q .world) (nod (block1Of (q .what)))
+
+pub record Exist : Type 0 where
+  pub refuses : RefusesAll refuser
+  pub passes : PassesAll passer
+  pub forgets : StoresNothing forgetter
+  pub nods : HandsAtZero nodder
