@@ -9,5 +9,5 @@ use Rattle.block_state.specs.Step as step
 use Rattle.demands.specs.Cases.{AllSay, cases}
 
 pub cases-hold : AllSay cases
-unfolding largestPower made sizeOf readOf negotiated within replyAt chunkOf spliceOf spliced requestBlock patch pieceAfter step.badForm step.notNext step.lengthMet step.onward step.taken step.spliced step.block1Given step.onNegotiated step.stepRequest
+unfolding largestPower made sizeOf readOf negotiated within replyAt chunkOf spliceOf spliced requestBlock patch pieceAfter step.badForm step.notNext step.lengthMet step.onward step.taken step.onSplice step.block1Given step.onNegotiated step.stepRequest
 cases-hold = (refl, (refl, (refl, (refl, (refl, (refl, (refl, (refl, (refl, (refl, (refl, (refl, (refl, (refl, (refl, (refl, (refl, (refl, (refl, (refl, (refl, (refl, (refl, (refl, (refl, (refl, (refl, (refl, (refl, tt)))))))))))))))))))))))))))))

@@ -124,5 +124,5 @@ tail-kept c home at s u x l first last plain hx hl h fits hu f g =
 
 -- the same by whole calls, by computation
 pub story : Story
-unfolding h.call h.withinLimits h.configOk h.memoriesOk h.whatOk h.callAt keys.same keys.keyOk keys.keyOf keys.storedOk keys.stored keys.isNoKey table.holds table.entryOk table.clash table.distinct table.tableOk table.live table.swept table.sweep table.place table.opened state.assembledOk state.cachedOk state.recordedOk state.stateOk state.isNothing step.badForm step.notNext step.lengthMet step.onward step.taken step.spliced step.block1Given step.onNegotiated step.stepRequest requestBlock readOf negotiated negotiation.within replyAt made largestPower sizeOf spliceOf pieces.spliced pieceAfter patch part pieceOf putPiece partOf
+unfolding h.call h.withinLimits h.configOk h.memoriesOk h.whatOk h.callAt keys.same keys.keyOk keys.keyOf keys.storedOk keys.stored keys.isNoKey table.holds table.entryOk table.clash table.distinct table.tableOk table.live table.swept table.sweep table.place table.opened state.assembledOk state.cachedOk state.recordedOk state.stateOk state.isNothing step.badForm step.notNext step.lengthMet step.onward step.taken step.onSplice step.block1Given step.onNegotiated step.stepRequest requestBlock readOf negotiated negotiation.within replyAt made largestPower sizeOf spliceOf pieces.spliced pieceAfter patch part pieceOf putPiece partOf
 story = record { plain = (refl, (refl, refl)); strict = (refl, (refl, refl)) }

@@ -88,7 +88,7 @@ given-two strict =
     }
 
 pub can-be-given : CanBeGiven
-unfolding h.withinLimits h.configOk h.memoriesOk h.whatOk keys.same keys.keyOk keys.isNoKey table.entryOk table.clash table.distinct table.tableOk state.isNothing negotiation.requestBlock value.readOf value.sizeOf h.call h.callAt keys.keyOf keys.storedOk keys.stored table.holds table.live table.swept table.sweep table.place table.opened state.assembledOk state.cachedOk state.recordedOk state.stateOk step.badForm step.notNext step.lengthMet step.onward step.taken step.spliced step.block1Given step.onNegotiated step.stepRequest step.chunked step.onReply step.stepResponse negotiation.negotiated negotiation.within negotiation.replyAt chunk.chunkOf value.made value.largestPower pieces.spliceOf pieces.spliced pieces.pieceAfter memory.patch memory.part memory.pieceOf memory.putPiece
+unfolding h.withinLimits h.configOk h.memoriesOk h.whatOk keys.same keys.keyOk keys.isNoKey table.entryOk table.clash table.distinct table.tableOk state.isNothing negotiation.requestBlock value.readOf value.sizeOf h.call h.callAt keys.keyOf keys.storedOk keys.stored table.holds table.live table.swept table.sweep table.place table.opened state.assembledOk state.cachedOk state.recordedOk state.stateOk step.badForm step.notNext step.lengthMet step.onward step.taken step.onSplice step.block1Given step.onNegotiated step.stepRequest step.chunked step.onReply step.stepResponse negotiation.negotiated negotiation.within negotiation.replyAt chunk.chunkOf value.made value.largestPower pieces.spliceOf pieces.spliced pieces.pieceAfter memory.patch memory.part memory.pieceOf memory.putPiece
 can-be-given =
     record {
       one = given-one;
