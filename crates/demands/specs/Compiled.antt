@@ -1,5 +1,5 @@
--- Demand 3 of the compiled calls. Meant c w q w′ a is, word for word, what both `intercept_request` and `intercept_response` ensure
--- (crates/block_handler/src/calls.rt): c is the configuration, w the table and memories that the call is lent, q the call that its
+-- Demand 3 of the compiled calls. Meant c w q w′ a is what both `intercept_request` and `intercept_response` ensure
+-- (crates/block_handler/src/calls.rt; request-ensures and response-ensures in proofs/Compiled.antt show it of the contracts themselves): c is the configuration, w the table and memories that the call is lent, q the call that its
 -- parameters make (requestCall, responseCall), w′ the table that it returns and the memories as it leaves them, and a its answer. The body
 -- that is seen is what the function `body` ensures, bodyOf (crates/block_handler/src/parts.rt).
 use mathlib.Core.List.{List, [], _∷_}
