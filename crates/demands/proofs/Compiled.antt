@@ -9,6 +9,8 @@ use borrow.Fn.Kinds.{endedOf}
 use Rattle.block_state.specs.declared.Config.{Config}
 use Rattle.block_handler.specs.Call.{World, Call, Done, call}
 use Rattle.block_handler.specs.Contract.{world, requestCall, responseCall, Meant}
+use Rattle.block_handler.specs.Parts.{bodyOf}
+use Rattle.block_handler.proofs.body
 use Rattle.block_handler.proofs.intercept_request
 use Rattle.block_handler.proofs.intercept_response
 use Rattle.demands.specs.Demand3.{Handler, Seen, seen, run, callOn, Demand3}
@@ -38,6 +40,11 @@ pub response-ensures : (κs : Lfts 2) (a : ArgsD intercept_response.signature κ
     (a .1 .1 .1 .1 .1 .1 .1 .0) (now (a .1 .1 .1 .1 .1 .1 .1 .1 .0)) (now (a .1 .1 .1 .1 .1 .1 .1 .1 .1 .0)))
     (world (r .table) (now (a .1 .1 .0)) (now (s .1 .1 .1 .0))) (r .answer)
 response-ensures κs a r s = refl
+
+-- The body that is seen is what `body` ensures of the answer, the payload and the upload memory.
+pub body-ensures : (κs : Lfts 1) (a : ArgsD body.signature κs) (r : ResD body.signature κs) (s : AtExit (endedOf 1 body.Kinds.ps body.Kinds.r) κs)
+    → body.Reads.Learnt κs a r s ≡ (now r ≡ bodyOf (a .0) (now (a .1 .0)) (now (a .1 .1 .0)))
+body-ensures κs a r s = refl
 
 -- ---- demand 3 of whatever keeps the contracts
 

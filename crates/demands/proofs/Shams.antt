@@ -27,7 +27,7 @@ use Rattle.block_table.specs.Table.{free, live}
 use Rattle.block_table.specs.Table as table
 use Rattle.block_handler.specs.Call as h
 use Rattle.block_handler.specs.Parts.{partOf, bodyOf}
-use Rattle.demands.specs.Demand3.{Handler, HasFree, NothingInPlain, Given3, Demand3, callOn, block}
+use Rattle.demands.specs.Demand3.{Handler, HasFree, NothingInPlain, Granted, Demand3, callOn, block}
 use Rattle.demands.specs.Shams.{config, fresh, key, sent, firstBlock, lastBlock, later, CanBeGiven, Excluded, Exist}
 
 -- ---- what is given can be given
@@ -41,7 +41,7 @@ unfolding live
 none-live strict plain i b h y =
     absurd (clash-of false (sym (ap (λ e. live 100 5 e) (getD-replicate 16 i free free b)) ∙ y) refl)
 
-given-one : (strict : Bool) → Given3 (config strict) fresh key 0 (sent 5 [] (7 ∷ [])) [] []
+given-one : (strict : Bool) → Granted (config strict) fresh key 0 (sent 5 [] (7 ∷ [])) [] []
 unfolding h.withinLimits h.configOk h.memoriesOk h.whatOk keys.same keys.keyOk keys.isNoKey table.entryOk table.clash table.distinct table.tableOk state.isNothing negotiation.requestBlock value.readOf value.sizeOf
 given-one strict =
     record {
@@ -64,7 +64,7 @@ given-one strict =
       };
     }
 
-given-two : (strict : Bool) → Given3 (config strict) fresh key 0 firstBlock (lastBlock ∷ []) later
+given-two : (strict : Bool) → Granted (config strict) fresh key 0 firstBlock (lastBlock ∷ []) later
 unfolding h.withinLimits h.configOk h.memoriesOk h.whatOk keys.same keys.keyOk keys.isNoKey table.entryOk table.clash table.distinct table.tableOk state.isNothing negotiation.requestBlock value.readOf value.sizeOf
 given-two strict =
     record {
@@ -155,7 +155,7 @@ excluded =
           sym (ap (λ l. getD l 0 0) (rw (r (config true) fresh (callOn key (sent 5 [] (7 ∷ [])))) at (shown-one h d)))
           ∙ shown-zero (h (config true) fresh (callOn key (sent 5 [] (7 ∷ []))) .answer) (7 ∷ []) 512 (handed-one h d) in
           omega arith;
-      handsAtZero = λ h r d. let z : _≡_ {A = ℕ} 0 1 = cc (continued h d, r (config true) fresh key firstBlock true 0 first-reads) in omega arith;
+      handsAtZero = λ h r d. let z : _≡_ {A = ℕ} 0 1 = cc (continued h d, r (config true) fresh key firstBlock true 0 (can-be-given .two true .push .limits) first-reads) in omega arith;
     }
 
 pub exist : Exist
@@ -164,5 +164,5 @@ exist =
       refuses = λ c w q. refl;
       passes = λ c w q. refl;
       forgets = λ c w q. refl;
-      nods = λ c w k s more x e. rw e;
+      nods = λ c w k s more x l e. rw e;
     }

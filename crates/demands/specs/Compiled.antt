@@ -7,9 +7,10 @@ use Prim.Native.Nat.{ℕ}
 use Rattle.block_state.specs.declared.Config.{Config}
 use Rattle.block_handler.specs.Call.{World, Call, Done}
 use Rattle.block_handler.specs.Contract.{Meant}
-use Rattle.demands.specs.Demand3.{Handler, Seen, seen, seenOn, Sent, callOn, joined, Given3, HandsOn}
+use Rattle.demands.specs.Demand3.{Handler, Seen, seen, seenOn, Sent, callOn, joined, Granted, HandsOn}
 
--- A handler every step of which is as the contracts say.
+-- A handler every step of which is as the contracts say. (The compiled calls take tables and numbers of their types alone: what is tied to them
+-- is `Demand3OfRuns` below.)
 abbrev pub KeepsContract : Handler → Type 0
 KeepsContract h = (c : Config) (w : World) (q : Call) → Meant c w q (h c w q .world) (h c w q .answer)
 
@@ -29,5 +30,5 @@ seenOf (q ∷ calls) (d ∷ results) = seen q d ∷ seenOf calls results
 unfoldable pub Demand3OfRuns : Type 0
 Demand3OfRuns =
     (c : Config) (w : World) (k : List ℕ) (x : ℕ) (first : Sent) (rest : List Sent) (later : List Call) (results : List Done)
-    → Given3 c w k x first rest later → Ran c w (callOn k first ∷ later) results
+    → Granted c w k x first rest later → Ran c w (callOn k first ∷ later) results
     → HandsOn (joined first rest) (seenOn k (seenOf (callOn k first ∷ later) results))

@@ -1,6 +1,8 @@
 -- DEMAND 3, of any handler and any run. The words in quotes are the demand's, or document 01's where that says so. The demand asks that a
 -- client's blocks are handed on exactly, whatever calls for other keys stand between them. It is proved of the definition of a call in
 -- proofs/Demand3.antt, and of whatever satisfies the calls' contracts in proofs/Compiled.antt.
+-- To read it: `(i : ℕ) → ..` is "for every i", `(i : ℕ) × ..` is "there is an i", `×` is "and", `⊎` is "or", `cond b x y` is "if b then x else y",
+-- `Unit` asks nothing, `⊥` cannot be, and `said a .kind` is the answer's name in document 01.
 use Prim.Native.Nat.{ℕ, suc, _+_, _≤_, _<_}
 use mathlib.Core.Bool.{Bool, true, false, cond}
 use mathlib.Core.Path.{_≡_}
@@ -126,7 +128,7 @@ NothingInPlain c w time k =
 pub record Push (c : Config) (w : World) (k : List ℕ) (x : ℕ) (first : Sent) (rest : List Sent) (later : List Call) : Type 0 where
   -- Document 01: "the first table and the key's own calls keep to this document's limits": no refusal 1 for the first block, so that the
   -- configuration, both memories, the key and the table are within the limits. (The later blocks have the same key. That their lengths are
-  -- within the limits is not assumed: it follows from `room`, since T is at most 65,535.)
+  -- within the limits is not assumed: it follows from `room` and `full`, since T is at most 65,535.)
   pub limits : withinLimits c w (callOn k first) ≡ true
   -- Granted by what a table and bytes are: a table has sixteen entries, and an option's bytes are below 256.
   pub sixteen : length (w .table .entries) ≡ 16
@@ -153,7 +155,7 @@ pub record Push (c : Config) (w : World) (k : List ℕ) (x : ℕ) (first : Sent)
   pub own : callsOn k later ≡ map (callOn k) rest
 
 -- The whole of it. "In either mode": nothing is said of c .strict but in `nothing`.
-pub record Given3 (c : Config) (w : World) (k : List ℕ) (x : ℕ) (first : Sent) (rest : List Sent) (later : List Call) : Type 0 where
+pub record Granted (c : Config) (w : World) (k : List ℕ) (x : ℕ) (first : Sent) (rest : List Sent) (later : List Call) : Type 0 where
   -- "Take a key with a live entry or a free one to take ..
   pub entry : HasLive c w (first .time) k ⊎ HasFree c w (first .time)
   -- .. and, in plain mode, nothing assembled."
@@ -170,5 +172,5 @@ HandsOn bytes (s ∷ t ∷ rest) = (said (s .answer) .kind ≡ continue) × Hand
 
 unfoldable pub Demand3 : Handler → Type 0
 Demand3 h =
-    (c : Config) (w : World) (k : List ℕ) (x : ℕ) (first : Sent) (rest : List Sent) (later : List Call) → Given3 c w k x first rest later
+    (c : Config) (w : World) (k : List ℕ) (x : ℕ) (first : Sent) (rest : List Sent) (later : List Call) → Granted c w k x first rest later
     → HandsOn (joined first rest) (seenOn k (run h c w (callOn k first ∷ later)))

@@ -1,4 +1,5 @@
--- What happened, and why strict mode prevents it. A push was cancelled and sent again with a shorter list: the old list's tail was handed on
+-- What happened, and why it does not happen in strict mode to a push as demand 3 has it, with no other call on the key between its blocks. A
+-- push was cancelled and sent again with a shorter list: the old list's tail was handed on
 -- behind the new one.
 use Prim.Native.Nat.{ℕ, _+_, _-_, _≤_}
 use mathlib.Core.Bool.{Bool, true, false}
@@ -32,22 +33,22 @@ pub record Carries (c : Config) (x j : ℕ) (more : Bool) (r : Request) : Type 0
 
 -- The state after the first of two requests, and after both.
 abbrev pub once : Config → ℕ → ℕ → BlockState → List ℕ → Request → Left
-once c home at s u first = stepRequest c home at s u first
+once c home away s u first = stepRequest c home away s u first
 
 abbrev pub twice : Config → ℕ → ℕ → BlockState → List ℕ → Request → Request → Left
-twice c home at s u first last =
-    stepRequest c home at (once c home at s u first .state) (once c home at s u first .piece) last
+twice c home away s u first last =
+    stepRequest c home away (once c home away s u first .state) (once c home away s u first .piece) last
 
--- From any l assembled bytes, a new list of two blocks, no longer than those: all l bytes are handed on, and what stood behind the two
+-- From any l assembled bytes, a new list of two full blocks, no longer than those: all l bytes are handed on, and what stood behind the two
 -- blocks still stands there. For l = 64 and blocks of 16 bytes this is case 11: bytes 32 to 63 are old.
 unfoldable pub TailKept : Type 0
 TailKept =
-    (c : Config) (home at : ℕ) (s : BlockState) (u : List ℕ) (x l : ℕ) (first last : Request)
+    (c : Config) (home away : ℕ) (s : BlockState) (u : List ℕ) (x l : ℕ) (first last : Request)
     → c .strict ≡ false → x ≤ 6 → s .assembled .len ≡ l → sizeOf x + sizeOf x ≤ l → l ≤ c .upload → length u ≡ c .upload
     → Carries c x 0 true first → Carries c x 1 false last
-    → (once c home at s u first .answer ≡ Continue (block 0 false x))
-    × (twice c home at s u first last .answer ≡ Handed (block 1 false x) (bytesFrom home l))
-    × (take l (twice c home at s u first last .piece) ≡ first .payload ++ last .payload ++ part u (sizeOf x + sizeOf x) (l - (sizeOf x + sizeOf x)))
+    → (once c home away s u first .answer ≡ Continue (block 0 false x))
+    × (twice c home away s u first last .answer ≡ Handed (block 1 false x) (bytesFrom home l))
+    × (take l (twice c home away s u first last .piece) ≡ first .payload ++ last .payload ++ part u (sizeOf x + sizeOf x) (l - (sizeOf x + sizeOf x)))
 
 -- The same story told by whole calls: the key's entry has 64 bytes 1 assembled, and its client sends 16 bytes 2 and 16 bytes 3.
 abbrev pub lane : List ℕ
@@ -84,7 +85,7 @@ pub record Story : Type 0 where
 
 -- ---- Strict mode
 
--- Whatever is assembled for the key, a push that starts again at block 0 hands on exactly its own blocks.
+-- Whatever is assembled for the key, a push that starts again at block 0, with no other call on the key between, hands on exactly its own blocks.
 unfoldable pub StartsAfresh : Handler → Type 0
 StartsAfresh h =
     (c : Config) (w : World) (k : List ℕ) (x : ℕ) (first : Sent) (rest : List Sent) (later : List Call)

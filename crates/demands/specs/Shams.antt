@@ -1,6 +1,6 @@
 -- Demand 3 is no empty promise: what it asks for can be given, in both modes, and the four sham handlers of document 01 break it.
 use Prim.Native.Nat.{ℕ}
-use mathlib.Core.Bool.{Bool, false, cond}
+use mathlib.Core.Bool.{Bool, false, cond, true}
 use mathlib.Core.Path.{_≡_}
 use mathlib.Core.List.{List, [], _∷_, map}
 use mathlib.Core.Option.{none, some}
@@ -16,8 +16,8 @@ use Rattle.block_state.specs.Message.{What, request, response}
 use Rattle.block_state.specs.Answers.{Kind, said, continue, handed, pass, first, refusal}
 use Rattle.block_state.specs.Step.{bytesFrom}
 use Rattle.block_table.specs.Table.{freshTable}
-use Rattle.block_handler.specs.Call.{World, Call, done, call}
-use Rattle.demands.specs.Demand3.{Handler, Seen, run, Sent, callOn, block, Given3, Demand3}
+use Rattle.block_handler.specs.Call.{World, Call, done, call, withinLimits}
+use Rattle.demands.specs.Demand3.{Handler, Seen, run, Sent, callOn, block, Granted, Demand3}
 
 -- ---- What is given can be given
 
@@ -66,8 +66,8 @@ numbers l = map (λ s. said (s .answer) .number) l
 
 pub record CanBeGiven : Type 0 where
   -- One block alone, and two blocks with those calls between them, in either mode.
-  pub one : (strict : Bool) → Given3 (config strict) fresh key 0 (sent 5 [] (7 ∷ [])) [] []
-  pub two : (strict : Bool) → Given3 (config strict) fresh key 0 firstBlock (lastBlock ∷ []) later
+  pub one : (strict : Bool) → Granted (config strict) fresh key 0 (sent 5 [] (7 ∷ [])) [] []
+  pub two : (strict : Bool) → Granted (config strict) fresh key 0 firstBlock (lastBlock ∷ []) later
   -- The calls between them are all kinds: one is taken, one gets refusal 1, one is cached, and one gets refusal 9, or in plain mode 7.
   pub between : (strict : Bool)
       → kinds (run call (config strict) fresh (callOn key firstBlock ∷ later)) ≡ continue ∷ continue ∷ refusal ∷ first ∷ refusal ∷ handed ∷ []
@@ -88,14 +88,16 @@ PassesAll h = (c : Config) (w : World) (q : Call) → said (h c w q .answer) .ki
 abbrev pub StoresNothing : Handler → Type 0
 StoresNothing h = (c : Config) (w : World) (q : Call) → h c w q .world .upload ≡ w .upload
 
--- "One that hands on at block 0 and only nods afterwards (3, since blocks before the last must get Continue)": whatever it does afterwards.
+-- "One that hands on at block 0 and only nods afterwards (3, since blocks before the last must get Continue)": within the limits, and
+-- whatever it does afterwards.
 abbrev pub HandsAtZero : Handler → Type 0
 HandsAtZero h =
-    (c : Config) (w : World) (k : List ℕ) (s : Sent) (more : Bool) (x : ℕ) → requestBlock (s .message .block1) ≡ Given (block 0 more x)
+    (c : Config) (w : World) (k : List ℕ) (s : Sent) (more : Bool) (x : ℕ) → withinLimits c w (callOn k s) ≡ true
+    → requestBlock (s .message .block1) ≡ Given (block 0 more x)
     → said (h c w (callOn k s) .answer) .kind ≡ handed
 
 abbrev pub Broken : (Handler → Type 0) → Type 0
-Broken Kind = (h : Handler) → Kind h → Demand3 h → ⊥
+Broken Sham = (h : Handler) → Sham h → Demand3 h → ⊥
 
 pub record Excluded : Type 0 where
   pub refusesAll : Broken RefusesAll
@@ -103,7 +105,7 @@ pub record Excluded : Type 0 where
   pub storesNothing : Broken StoresNothing
   pub handsAtZero : Broken HandsAtZero
 
--- There are such handlers. The third answers as it should, and the fourth even stores as it should.
+-- There are such handlers. The third does all that it should but store an upload, and the fourth stores as it should.
 abbrev pub refuser : Handler
 refuser c w q = done w (Refused 1)
 
@@ -111,7 +113,8 @@ abbrev pub passer : Handler
 passer c w q = done w Pass
 
 abbrev pub forgetter : Handler
-forgetter c w q = done w (call c w q .answer)
+forgetter c w q =
+    done (record { table = call c w q .world .table; upload = w .upload; response = call c w q .world .response }) (call c w q .answer)
 
 abbrev pub nod : MaybeBlock → Answer
 nod Absent = Pass
