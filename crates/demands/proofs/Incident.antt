@@ -125,4 +125,24 @@ tail-kept c home at s u x l first last plain hx hl h fits hu f g =
 -- the same by whole calls, by computation
 pub story : Story
 unfolding h.call h.withinLimits h.configOk h.memoriesOk h.whatOk h.callAt keys.same keys.keyOk keys.keyOf keys.storedOk keys.stored keys.isNoKey table.holds table.entryOk table.clash table.distinct table.tableOk table.live table.swept table.sweep table.place table.opened state.assembledOk state.cachedOk state.recordedOk state.stateOk state.isNothing step.badForm step.notNext step.lengthMet step.onward step.taken step.onSplice step.block1Given step.onNegotiated step.stepRequest requestBlock readOf negotiated negotiation.within replyAt made largestPower sizeOf spliceOf pieces.spliced pieceAfter patch part pieceOf putPiece partOf
-story = record { plain = (refl, (refl, refl)); strict = (refl, (refl, refl)) }
+story =
+    record {
+      plain = (refl, (refl, refl));
+      strict = (refl, (refl, refl));
+      live = (0, omega arith, refl, refl);
+      push = record {
+        limits = refl;
+        sixteen = refl;
+        bytes = (((omega arith, tt), tt), (((omega arith, tt), tt), tt));
+        count = omega arith;
+        numbered = (refl, refl);
+        size = omega arith;
+        full = (refl, omega arith);
+        alone = (refl, refl);
+        room = (omega arith, omega arith);
+        fits = omega arith;
+        clock = (omega arith, (omega arith, tt));
+        prompt = (omega arith, tt);
+        own = refl;
+      };
+    }

@@ -82,6 +82,9 @@ pub record Story : Type 0 where
   pub plain : HandsOn (replicate 16 2 ++ replicate 16 3 ++ replicate 32 1) (seenOn lane (run call (shop false) cancelled newList))
   -- .. and in strict mode the new list alone.
   pub strict : HandsOn (replicate 16 2 ++ replicate 16 3) (seenOn lane (run call (shop true) cancelled newList))
+  -- It is a push as demand 3 has it, on a live entry with bytes assembled: what `StartsAfresh` below asks can be given.
+  pub live : HasLive (shop true) cancelled 6 lane
+  pub push : Push (shop true) cancelled lane 0 newFirst (newLast ∷ []) (callOn lane newLast ∷ [])
 
 -- ---- Strict mode
 
