@@ -1,5 +1,3 @@
-pub mod Parted
 pub mod Judged
 pub mod Meanings
 pub mod Frame
-pub mod Served

@@ -1,4 +1,3 @@
-pub mod Parts
 pub mod Call
 pub mod Verdict
 pub mod Contract

@@ -2,7 +2,6 @@
 use block_value::BlockValue;
 use negotiation::MaybeBlock;
 
-pub mod limits;
 mod request;
 mod response;
 mod state;

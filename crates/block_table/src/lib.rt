@@ -4,7 +4,6 @@ use block_state::BlockState;
 use block_state::Cached;
 use block_state::Config;
 use block_state::Recorded;
-use block_state::limits;
 ghost use mathlib.Core.Path.{_≡_};
 ghost use mathlib.Core.Bool.{true, false, _&&_, cond};
 ghost use Prim.Native.Nat.{_-_, _≤_, _<_, _^_};

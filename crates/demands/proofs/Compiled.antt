@@ -9,8 +9,8 @@ use borrow.Fn.Kinds.{endedOf}
 use Rattle.block_state.specs.declared.Config.{Config}
 use Rattle.block_handler.specs.Call.{World, Call, Done, call}
 use Rattle.block_handler.specs.Contract.{world, requestCall, responseCall, Meant}
-use Rattle.block_handler.specs.Parts.{bodyOf}
-use Rattle.block_handler.proofs.body
+use Rattle.answers.specs.Parts.{bodyOf}
+use Rattle.answers.proofs.body
 use Rattle.block_handler.proofs.intercept_request
 use Rattle.block_handler.proofs.intercept_response
 use Rattle.demands.specs.Demand3.{Handler, Seen, seen, run, callOn, Demand3}

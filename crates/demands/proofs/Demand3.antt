@@ -29,8 +29,8 @@ use Rattle.block_table.proofs.Keys.{same-refl}
 use Rattle.block_table.proofs.Entries.{holds-used, holds-new, used-live, swept-dead, swept-holds, at-sweep, opened-own, opened-new, opened-key, place-holds, place-of}
 use Rattle.block_table.proofs.TableFits.{row, row-length, row-unique, row-live}
 use Rattle.block_handler.specs.Call.{World, Call, configOk, whatOk, call}
-use Rattle.block_handler.specs.Parts.{partOf, bodyOf}
-use Rattle.block_handler.proofs.Parted.{part-there}
+use Rattle.answers.specs.Parts.{partOf, bodyOf}
+use Rattle.answers.proofs.Parted.{part-there}
 use Rattle.block_handler.proofs.Frame.{WorldFits, world-fits, key-within, Took, request-took, call-fits, other-keeps, clock-most}
 use Rattle.demands.specs.Demand3.{Handler, Seen, seen, run, callsOn, seenOn, Sent, callOn, block, Each, Fills, joined, Prompt, Rising, AllBytes, entryAt, HasLive, HasFree, NothingInPlain, HandsOn, Demand3}
 use Rattle.demands.proofs.OwnStep.{Meets, held-after, own-more, own-last, meets-first, meets-next}

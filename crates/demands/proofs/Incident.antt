@@ -33,7 +33,7 @@ use Rattle.block_table.specs.Keys as keys
 use Rattle.block_table.specs.Table as table
 use Rattle.block_handler.specs.Call.{call}
 use Rattle.block_handler.specs.Call as h
-use Rattle.block_handler.specs.Parts.{partOf}
+use Rattle.answers.specs.Parts.{partOf}
 use Rattle.demands.specs.Demand3.{block, Demand3}
 use Rattle.demands.specs.Incident.{Carries, once, twice, TailKept, Story, StartsAfresh}
 use Rattle.demands.proofs.OwnStep.{room-agreed, held-after}

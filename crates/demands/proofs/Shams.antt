@@ -26,7 +26,7 @@ use Rattle.block_table.specs.Keys as keys
 use Rattle.block_table.specs.Table.{free, live}
 use Rattle.block_table.specs.Table as table
 use Rattle.block_handler.specs.Call as h
-use Rattle.block_handler.specs.Parts.{partOf, bodyOf}
+use Rattle.answers.specs.Parts.{partOf, bodyOf}
 use Rattle.demands.specs.Demand3.{Handler, HasFree, NothingInPlain, Granted, Demand3, callOn, block}
 use Rattle.demands.specs.Shams.{config, fresh, key, sent, firstBlock, lastBlock, later, CanBeGiven, Excluded, Exist}
 

@@ -21,7 +21,7 @@ use Rattle.block_table.specs.declared.Entry.{Entry}
 use Rattle.block_table.specs.Keys.{same}
 use Rattle.block_table.specs.Table.{holds, live, at}
 use Rattle.block_handler.specs.Call.{World, Call, Done, withinLimits}
-use Rattle.block_handler.specs.Parts.{bodyOf}
+use Rattle.answers.specs.Parts.{bodyOf}
 
 -- ---- A handler, and what is seen of its run
 

@@ -28,7 +28,7 @@ pub fn copy_in(mem: &mut [u8], at: usize, src: &[u8])
 }
 
 // Writes n zeros into mem from index at on.
-fn zero_fill(mem: &mut [u8], at: usize, n: usize)
+pub fn zero_fill(mem: &mut [u8], at: usize, n: usize)
     requires { ⌜ at + n ≤ length (now mem) ⌝ }
     ensures { λ _. ⌜ now (mem .exit) ≡ patch (now (mem .entry)) at (replicate n 0) ⌝ }
 {
@@ -40,7 +40,7 @@ fn zero_fill(mem: &mut [u8], at: usize, n: usize)
 }
 
 // Moves the n bytes at from down to index to, the first one first.
-fn move_left(mem: &mut [u8], from: usize, to: usize, n: usize)
+pub fn move_left(mem: &mut [u8], from: usize, to: usize, n: usize)
     requires { ⌜ to ≤ from ⌝ }
     requires { ⌜ from + n ≤ length (now mem) ⌝ }
     ensures { λ _. ⌜ now (mem .exit) ≡ patch (now (mem .entry)) to (part (now (mem .entry)) from n) ⌝ }

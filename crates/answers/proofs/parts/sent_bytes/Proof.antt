@@ -1,0 +1,18 @@
+use mathlib.Core.Path.{ap, _∙_}
+use Rattle.answers.specs.declared.Shows.{Shows}
+use Rattle.answers.specs.Parts.{bytesOf}
+use borrow.Author.Needs.{needs}
+use Rattle.answers.proofs.parts.sent_bytes.Statement.{statement}
+use Rattle.answers.proofs.parts.sent_bytes.Tie as tie
+
+shown-by-requires : tie.Need-shown-by-requires
+shown-by-requires c κs = search needs
+
+bytes-of-requires : tie.Need-bytes-of-requires
+bytes-of-requires c κs = search needs
+
+returns : tie.Need-returns
+returns c = c .bytes-of .ensures ∙ ap (λ (s : Shows). bytesOf (s .sent) (c .before .before .before .args .payload .now) (c .before .before .before .args .payload .now)) (c .before .shown-by .ensures)
+
+pub sent-bytes-spec : {M : Type 1} → statement M
+sent-bytes-spec = tie.close (tie.spec shown-by-requires bytes-of-requires returns)
