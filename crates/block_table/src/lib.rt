@@ -63,7 +63,7 @@ pub fn key_ok(key: &[u8]) -> bool
     (1 <= key.len()) & (key.len() <= 64)
 }
 
-fn same_bytes(a: &[u8], b: &[u8]) -> bool
+pub fn same_bytes(a: &[u8], b: &[u8]) -> bool
     ensures { λ r. ⌜ r ≡ same (now (a .entry)) (now (b .entry)) ⌝ }
 {
     if a.len() != b.len() {

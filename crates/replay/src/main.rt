@@ -1,0 +1,102 @@
+// A script of any length on standard input, with lines that start afresh and lines that show the state.
+use runner::buffers;
+ghost use mathlib.Core.Path.{_≡_};
+ghost use Prim.Native.Nat.{_≤_, _<_};
+ghost use lib.ListN.{length};
+
+// Reads on behind the bytes that are held; where that is the end, there is no more.
+fn read_on(text: &mut [u8], held: usize) -> usize
+    requires { ⌜ held ≤ length (now text) ⌝ }
+    ensures { λ r. ⌜ (held ≤ r) × (r ≤ length (now (text .entry))) ⌝ }
+{
+    let got = libc::read(0, &mut text[held..]);
+    held + io::count(got, &text[held..])
+}
+
+// How often more is read at most: not at all where nothing came. A loop has to end, and nothing says that the input does: no run uses this up.
+fn turns_left(turns: u64, held: usize, end: usize) -> u64
+    requires { ⌜ 0 < turns ⌝ }
+    ensures { λ r. ⌜ r < turns ⌝ }
+{
+    if end == held {
+        return 0;
+    }
+    turns - 1
+}
+
+fn run(
+    text: &mut [u8],
+    upload: &mut [u8],
+    response: &mut [u8],
+    key: &mut [u8],
+    first: &mut [u8],
+    second: &mut [u8],
+    payload: &mut [u8],
+    out: &mut [u8],
+)
+    requires { ⌜ length (now text) ≡ 265537 ⌝ }
+    requires { ⌜ (length (now key) ≡ 100000) × (length (now first) ≡ 100000) × (length (now second) ≡ 100000) × (length (now payload) ≡ 100000) ⌝ }
+    requires { ⌜ (1048576 ≤ length (now upload)) × (1048576 ≤ length (now response)) × (2200000 ≤ length (now out)) ⌝ }
+{
+    let begun = runner::start(out);
+    let mut state = begun.state;
+    let mut at = begun.at;
+    let mut held = 0;
+    let mut end = read_on(text, 0);
+    let mut turns = turns_left(u64::MAX, 0, end);
+    while turns > 0 {
+        let rest = runner::run_lines(
+            true,
+            state,
+            &text[0..end],
+            upload,
+            response,
+            key,
+            first,
+            second,
+            payload,
+            out,
+            at,
+        );
+        state = rest.state;
+        at = rest.at;
+        held = runner::keep(text, rest.from, end);
+        end = read_on(text, held);
+        turns = turns_left(turns, held, end);
+    }
+    let last = runner::run_last(
+        true,
+        state,
+        &text[0..held],
+        upload,
+        response,
+        key,
+        first,
+        second,
+        payload,
+        out,
+        at,
+    );
+    runner::print(out, last.at);
+}
+
+fn main() {
+    let mut text = buffers::text();
+    let mut upload = buffers::memory();
+    let mut response = buffers::memory();
+    let mut key = buffers::field();
+    let mut first = buffers::field();
+    let mut second = buffers::field();
+    let mut payload = buffers::field();
+    let mut out = buffers::output();
+    run(
+        &mut text,
+        &mut upload,
+        &mut response,
+        &mut key,
+        &mut first,
+        &mut second,
+        &mut payload,
+        &mut out,
+    );
+}
