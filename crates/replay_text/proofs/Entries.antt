@@ -8,8 +8,8 @@ use lib.Dec.{ltb}
 use lib.ListN.{length, getD, drop, length-append, drop-of-length-le}
 use borrow.Author.Tests.{lt-ltb, le-ltb}
 use Rattle.script.specs.Line.{Bytes}
-use Rattle.script.specs.Text.{Put, none}
-use Rattle.script.proofs.Puts.{put-none, put-then, put-as, put-length}
+use Rattle.script_text.specs.Text.{Put, none}
+use Rattle.script_text.proofs.Puts.{put-none, put-then, put-as, put-length}
 use Rattle.block_table.specs.declared.Entry.{Entry}
 use Rattle.block_table.proofs.Turns.{drop-step}
 use Rattle.replay_text.specs.State.{entryText, usedTexts, continued, joined, entriesText, nextText}

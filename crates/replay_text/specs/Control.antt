@@ -3,7 +3,7 @@ use mathlib.Core.Bool.{Bool, cond, _&&_, _||_}
 use mathlib.Core.List.{List, [], _∷_}
 use lib.Dec.{eqb}
 use lib.ListN.{length, getD}
-use Rattle.script.specs.Fields.{isNumber, value}
+use Rattle.script_fields.specs.Fields.{isNumber, value}
 use Rattle.script.specs.Line.{Bytes, fields}
 use Rattle.block_table.specs.Keys.{same}
 use Rattle.replay_text.specs.declared.Control.{Control}

@@ -4,7 +4,7 @@ use mathlib.Core.Bool.{Bool, cond}
 use mathlib.Core.List.{List, [], _∷_, _++_}
 use lib.Bits.{bitXor}
 use Rattle.script.specs.Line.{Bytes}
-use Rattle.script.specs.Text.{decimal, hex, blockText, none}
+use Rattle.script_text.specs.Text.{decimal, hex, blockText, none}
 use Rattle.block_state.specs.declared.Assembled.{Assembled}
 use Rattle.block_state.specs.declared.Cached.{Cached}
 use Rattle.block_state.specs.declared.Recorded.{Recorded}

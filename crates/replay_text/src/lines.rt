@@ -1,8 +1,8 @@
 // The lines that a replay has besides calls: a fresh start under another configuration, and the state shown.
 use crate::Control;
 use block_state::Config;
-use script::Number;
 use script::Split;
+use script_fields::Number;
 ghost use mathlib.Core.Path.{_≡_};
 ghost use Prim.Native.Nat.{_*_, _≤_, min};
 ghost use Rattle.replay_text.specs.Control.{startOf, controlOf};
@@ -35,16 +35,16 @@ fn start_of<'a>(
     if !(strict | block_table::same_bytes(mode, b"plain")) {
         return Control::Other;
     }
-    let Number::Value(t) = script::number_field(limit) else {
+    let Number::Value(t) = script_fields::number_field(limit) else {
         return Control::Other;
     };
-    let Number::Value(l) = script::number_field(lifetime) else {
+    let Number::Value(l) = script_fields::number_field(lifetime) else {
         return Control::Other;
     };
-    let Number::Value(u) = script::number_field(upload) else {
+    let Number::Value(u) = script_fields::number_field(upload) else {
         return Control::Other;
     };
-    let Number::Value(v) = script::number_field(response) else {
+    let Number::Value(v) = script_fields::number_field(response) else {
         return Control::Other;
     };
     Control::Fresh(Config {

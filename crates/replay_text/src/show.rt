@@ -11,7 +11,7 @@ ghost use mathlib.Core.Path.{_≡_};
 ghost use Prim.Native.Nat.{_+_, _%_, _≤_, _<_};
 ghost use lib.ListN.{length, take};
 ghost use lib.Dec.{ltb};
-ghost use Rattle.script.specs.Text.{Put, hex};
+ghost use Rattle.script_text.specs.Text.{Put, hex};
 ghost use Rattle.replay_text.specs.State.{timesPrime, fnvOf, wordText, assembledText, cachedText, recordedText, whoText, whatText, entryText, nextText, entriesText, memoriesText, stateText, configText};
 
 fn wide(x: u8) -> u64
@@ -77,7 +77,7 @@ fn put_word(out: &mut [u8], at: usize, x: u64) -> usize
         low_byte(x / 256),
         low_byte(x),
     ];
-    script::put_hex(out, at, &bytes)
+    script_text::put_hex(out, at, &bytes)
 }
 
 fn put_key(out: &mut [u8], at: usize, bytes: [u8; 64], n: usize) -> usize
@@ -86,9 +86,9 @@ fn put_key(out: &mut [u8], at: usize, bytes: [u8; 64], n: usize) -> usize
     ensures { λ r. ⌜ r ≤ at + 128 ⌝ }
 {
     if n <= 64 {
-        return script::put_hex(out, at, &bytes[0..n]);
+        return script_text::put_hex(out, at, &bytes[0..n]);
     }
-    script::put_hex(out, at, &bytes)
+    script_text::put_hex(out, at, &bytes)
 }
 
 fn put_assembled(out: &mut [u8], at: usize, assembled: Assembled) -> usize
@@ -96,9 +96,9 @@ fn put_assembled(out: &mut [u8], at: usize, assembled: Assembled) -> usize
     ensures { λ r. ⌜ Put (now (out .entry)) at (assembledText assembled) (now (out .exit)) r ⌝ }
     ensures { λ r. ⌜ r ≤ at + 50 ⌝ }
 {
-    let k = script::put_decimal(out, at, assembled.len as u64);
-    let k = script::put_byte(out, k, b',');
-    script::put_decimal(out, k, assembled.exponent as u64)
+    let k = script_text::put_decimal(out, at, assembled.len as u64);
+    let k = script_text::put_byte(out, k, b',');
+    script_text::put_decimal(out, k, assembled.exponent as u64)
 }
 
 fn put_cached(out: &mut [u8], at: usize, cached: Cached) -> usize
@@ -107,11 +107,11 @@ fn put_cached(out: &mut [u8], at: usize, cached: Cached) -> usize
     ensures { λ r. ⌜ r ≤ at + 50 ⌝ }
 {
     if !cached.held {
-        return script::put_byte(out, at, b'-');
+        return script_text::put_byte(out, at, b'-');
     }
-    let k = script::put_decimal(out, at, cached.head as u64);
-    let k = script::put_byte(out, k, b'+');
-    script::put_decimal(out, k, cached.payload as u64)
+    let k = script_text::put_decimal(out, at, cached.head as u64);
+    let k = script_text::put_byte(out, k, b'+');
+    script_text::put_decimal(out, k, cached.payload as u64)
 }
 
 fn put_recorded(out: &mut [u8], at: usize, recorded: Recorded) -> usize
@@ -120,14 +120,14 @@ fn put_recorded(out: &mut [u8], at: usize, recorded: Recorded) -> usize
     ensures { λ r. ⌜ r ≤ at + 50 ⌝ }
 {
     if !recorded.given {
-        return script::put_byte(out, at, b'-');
+        return script_text::put_byte(out, at, b'-');
     }
     let block = BlockValue {
         num: recorded.num,
         more: recorded.more,
         size_exponent: recorded.exponent,
     };
-    script::put_block(out, at, block)
+    script_text::put_block(out, at, block)
 }
 
 // INDEX,KEY,TOUCHED
@@ -137,11 +137,11 @@ fn put_who(out: &mut [u8], at: usize, i: u64, key: Key, touched: u64) -> usize
     ensures { λ r. ⌜ r ≤ at + 200 ⌝ }
 {
     let bytes = key.bytes;
-    let k = script::put_decimal(out, at, i);
-    let k = script::put_byte(out, k, b',');
+    let k = script_text::put_decimal(out, at, i);
+    let k = script_text::put_byte(out, k, b',');
     let k = put_key(out, k, bytes, size(key.len));
-    let k = script::put_byte(out, k, b',');
-    script::put_decimal(out, k, touched)
+    let k = script_text::put_byte(out, k, b',');
+    script_text::put_decimal(out, k, touched)
 }
 
 // ASSEMBLED,KEPT,CACHE,RECORDED
@@ -154,9 +154,9 @@ fn put_what(out: &mut [u8], at: usize, state: BlockState) -> usize
     let cached = state.cached;
     let recorded = state.recorded;
     let k = put_assembled(out, at, assembled);
-    let k = script::put_byte(out, k, b',');
+    let k = script_text::put_byte(out, k, b',');
     let k = put_cached(out, k, cached);
-    let k = script::put_byte(out, k, b',');
+    let k = script_text::put_byte(out, k, b',');
     put_recorded(out, k, recorded)
 }
 
@@ -168,7 +168,7 @@ fn put_entry(out: &mut [u8], at: usize, i: u64, e: Entry) -> usize
     let key = e.key;
     let state = e.state;
     let k = put_who(out, at, i, key, e.touched);
-    let k = script::put_byte(out, k, b',');
+    let k = script_text::put_byte(out, k, b',');
     put_what(out, k, state)
 }
 
@@ -182,7 +182,7 @@ fn put_next(out: &mut [u8], base: usize, at: usize, i: u64, e: Entry) -> usize
         return at;
     }
     if base < at {
-        let k = script::put_byte(out, at, b';');
+        let k = script_text::put_byte(out, at, b';');
         return put_entry(out, k, i, e);
     }
     put_entry(out, at, i, e)
@@ -201,7 +201,7 @@ fn put_entries(out: &mut [u8], at: usize, entries: [Entry; 16]) -> usize
         i += 1;
     }
     if k == at {
-        return script::put_byte(out, k, b'-');
+        return script_text::put_byte(out, k, b'-');
     }
     k
 }
@@ -213,9 +213,9 @@ fn put_memories<'a>(out: &mut [u8], at: usize, upload: &'a [u8], response: &'a [
     ensures { λ r. ⌜ r ≤ at + 35 ⌝ }
 {
     let k = put_word(out, at, fnv(upload));
-    let k = script::put_byte(out, k, b' ');
+    let k = script_text::put_byte(out, k, b' ');
     let k = put_word(out, k, fnv(response));
-    script::put_byte(out, k, b'\n')
+    script_text::put_byte(out, k, b'\n')
 }
 
 // `N state CLOCK ENTRIES UPLOAD RESPONSE`
@@ -232,12 +232,12 @@ pub fn put_state<'a>(
     ensures { λ r. ⌜ r ≤ at + 7000 ⌝ }
 {
     let entries = table.entries;
-    let k = script::put_decimal(out, at, n);
-    let k = script::put(out, k, b" state ");
-    let k = script::put_decimal(out, k, table.clock);
-    let k = script::put_byte(out, k, b' ');
+    let k = script_text::put_decimal(out, at, n);
+    let k = script_text::put(out, k, b" state ");
+    let k = script_text::put_decimal(out, k, table.clock);
+    let k = script_text::put_byte(out, k, b' ');
     let k = put_entries(out, k, entries);
-    let k = script::put_byte(out, k, b' ');
+    let k = script_text::put_byte(out, k, b' ');
     put_memories(out, k, upload, response)
 }
 
@@ -247,6 +247,6 @@ pub fn put_config(out: &mut [u8], at: usize, n: u64) -> usize
     ensures { λ r. ⌜ Put (now (out .entry)) at (configText n) (now (out .exit)) r ⌝ }
     ensures { λ r. ⌜ r ≤ at + 50 ⌝ }
 {
-    let k = script::put_decimal(out, at, n);
-    script::put(out, k, b" config - - -\n")
+    let k = script_text::put_decimal(out, at, n);
+    script_text::put(out, k, b" config - - -\n")
 }

@@ -1,2 +1,1 @@
-pub mod Running
 pub mod Lining

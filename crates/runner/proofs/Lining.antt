@@ -15,12 +15,12 @@ use Rattle.block_table.specs.Table.{freshTable}
 use Rattle.block_handler.specs.Call.{World}
 use Rattle.block_handler.specs.Contract.{world}
 use Rattle.script.specs.Line.{lineOf, cutAt, between, UpTo}
-use Rattle.script.specs.Text.{unreadableText}
+use Rattle.script_text.specs.Text.{unreadableText}
 use Rattle.script.proofs.Splitting.{next-field, last-field, some-field}
 use Rattle.replay_text.specs.declared.Control.{Control}
 use Rattle.replay_text.specs.Control.{controlOf}
 use Rattle.runner.specs.declared.State.{State}
-use Rattle.runner.specs.Run.{worldAfter}
+use Rattle.script_call.specs.Run.{worldAfter}
 use Rattle.runner.specs.Lines.{memoryOf, freshWorld, After, fresh, called, controlled, lineRun, worldIn, Leaves, Standing, standing, nextLine, afterLine, afterLines, lastOf, unended, afterLast, lastText}
 
 -- ---- what a line leaves
@@ -147,3 +147,8 @@ module _ (replay : Bool) (s : Standing) (l : List ℕ) where
   pub some-last : (length l ≡ 0 → ⊥) → (afterLine replay s l ≡ afterLast replay s l) × (nextLine replay s l .text ≡ lastText replay s l)
   unfolding afterLast lastText
   some-last h = (rw (ne-eqb (length l) 0 h), rw (ne-eqb (length l) 0 h))
+
+-- ---- buffers
+
+pub zeros-long : (n : ℕ) → n ≡ length {A = ℕ} (replicate {A = ℕ} n 0)
+zeros-long n = sym (length-replicate n 0)

@@ -11,13 +11,13 @@ use Rattle.block_table.specs.Table.{freshTable}
 use Rattle.block_handler.specs.Call.{World}
 use Rattle.block_handler.specs.Contract.{world}
 use Rattle.script.specs.Line.{lineOf, cutAt}
-use Rattle.script.specs.Text.{unreadableText}
+use Rattle.script_text.specs.Text.{unreadableText}
 use Rattle.replay_text.specs.declared.Control.{Control}
 use Rattle.replay_text.specs.declared.Control.the-variants.{Fresh, Show, Other}
 use Rattle.replay_text.specs.Control.{controlOf}
 use Rattle.replay_text.specs.State.{configText, stateText}
 use Rattle.runner.specs.declared.State.{State}
-use Rattle.runner.specs.Run.{worldAfter, textAfter}
+use Rattle.script_call.specs.Run.{worldAfter, textAfter}
 
 -- ---- one line
 

@@ -3,7 +3,6 @@ use block_state::Config;
 use block_table::Table;
 
 pub mod buffers;
-mod call;
 mod line;
 mod lines;
 

@@ -1,13 +1,12 @@
 // One line, whatever it is.
 use crate::State;
 use crate::Step;
-use crate::call;
 use block_state::Config;
 use replay_text::Control;
 ghost use mathlib.Core.Path.{_≡_};
 ghost use Prim.Native.Nat.{_+_, _*_, _≤_};
 ghost use lib.ListN.{length};
-ghost use Rattle.script.specs.Text.{Put};
+ghost use Rattle.script_text.specs.Text.{Put};
 ghost use Rattle.runner.specs.Lines.{fresh, shown, called, controlled, lineRun, worldIn, Leaves};
 
 // A fresh start: an empty table, and memories of zeros.
@@ -67,7 +66,7 @@ fn run(
     let number = state.number;
     let u = replay_text::memory_of(config.upload);
     let v = replay_text::memory_of(config.response);
-    let ran = call::run_line(
+    let ran = script_call::run_line(
         config,
         table,
         &mut upload[0..u],
@@ -131,7 +130,7 @@ pub fn run_any(
     ensures { λ r. ⌜ r .at ≤ at + 2 * 1048576 + 200 ⌝ }
 {
     if 200000 < line.len() {
-        let next = script::put_unreadable(out, at, state.number);
+        let next = script_text::put_unreadable(out, at, state.number);
         return Step { state, at: next };
     }
     if !replay {

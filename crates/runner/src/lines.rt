@@ -9,7 +9,7 @@ ghost use Prim.Native.Nat.{_+_, _-_, _%_, _^_, _≤_, min};
 ghost use lib.ListN.{length, drop};
 ghost use Rattle.pieces.specs.Memory.{patch, part};
 ghost use Rattle.script.specs.Line.{cutAt};
-ghost use Rattle.script.specs.Text.{Put};
+ghost use Rattle.script_text.specs.Text.{Put};
 ghost use Rattle.runner.specs.Lines.{scriptConfig, header, begun, afterLines, afterLast, lastText, unended, standing};
 
 // Output that is written at once.
@@ -37,7 +37,7 @@ pub fn start(out: &mut [u8]) -> Step
     ensures { λ r. ⌜ Put (now (out .entry)) 0 header (now (out .exit)) (r .at) ⌝ }
     ensures { λ r. ⌜ r .at ≤ 65536 ⌝ }
 {
-    let at = script::put(out, 0, b"line answer block1 block2 bytes\n");
+    let at = script_text::put(out, 0, b"line answer block1 block2 bytes\n");
     let table = block_table::fresh();
     let config = script_config();
     Step {

@@ -5,7 +5,7 @@ use mathlib.Core.Bool.{Bool, false, cond, _&&_}
 use mathlib.Core.List.{List, [], _∷_}
 use lib.Dec.{eqb, ltb, leb}
 use lib.ListN.{length, getD, take, drop}
-use Rattle.script.specs.Fields.{isNumber, value, isBytes, bytesOf, isOption, isGiven, optionBytes}
+use Rattle.script_fields.specs.Fields.{isNumber, value, isBytes, bytesOf, isOption, isGiven, optionBytes}
 use Rattle.script.specs.declared.Line.{Line}
 use Rattle.script.specs.declared.Line.the-variants as line
 use Rattle.script.specs.declared.Split.{Split}

@@ -1,46 +1,11 @@
-// The script's text, over lent slices: a line is read, an answer is written.
-mod answer;
-mod fields;
-mod read;
-mod text;
+// A script line, over lent slices: its fields cut at spaces, and what they say.
+use script_fields::Found;
 
-pub use answer::put_answer;
-pub use answer::put_unreadable;
-pub use fields::bytes_field;
-pub use fields::number_field;
+mod read;
+
 pub use read::mark_from;
 pub use read::read_line;
 pub use read::split_six;
-pub use text::put;
-pub use text::put_block;
-pub use text::put_byte;
-pub use text::put_decimal;
-pub use text::put_hex;
-pub use text::put_shown;
-
-// What a decimal field says.
-pub enum Number {
-    Value(u64),
-    Bad,
-}
-
-// What a field of bytes says: how many stand at the start of the buffer.
-pub enum Decoded {
-    Bytes(usize),
-    Bad,
-}
-
-// A block option: its length counts only if it is given.
-pub struct Found {
-    pub given: bool,
-    pub len: usize,
-}
-
-// What a field of a block option says.
-pub enum Optional {
-    Found(Found),
-    Bad,
-}
 
 // Where the first five of six fields end: each at a space.
 pub struct Ends {

@@ -1,13 +1,12 @@
 // A line: its kind, and six fields with a space between each two.
-use crate::Decoded;
 use crate::Ends;
 use crate::Line;
-use crate::Number;
-use crate::Optional;
 use crate::Request;
 use crate::Response;
 use crate::Split;
-use crate::fields;
+use script_fields::Decoded;
+use script_fields::Number;
+use script_fields::Optional;
 ghost use mathlib.Core.Path.{_≡_};
 ghost use Prim.Native.Nat.{_*_, _≤_};
 ghost use lib.ListN.{length};
@@ -85,22 +84,22 @@ fn request_of<'a>(
     ensures { λ r. ⌜ saidBy r (now (key .exit)) (now (first .exit)) (now (second .exit)) (now (payload .exit)) ≡ requestOf (now («time_text» .entry)) (now («key_text» .entry)) (now («bare_text» .entry)) (now (text1 .entry)) (now (text2 .entry)) (now («payload_text» .entry)) ⌝ }
     ensures { λ r. ⌜ InBuffers r (now (key .exit)) (now (first .exit)) (now (second .exit)) (now (payload .exit)) ⌝ }
 {
-    let Number::Value(time) = fields::number_field(time_text) else {
+    let Number::Value(time) = script_fields::number_field(time_text) else {
         return Line::Unreadable;
     };
-    let Decoded::Bytes(k) = fields::bytes_field(key_text, key) else {
+    let Decoded::Bytes(k) = script_fields::bytes_field(key_text, key) else {
         return Line::Unreadable;
     };
-    let Number::Value(bare) = fields::number_field(bare_text) else {
+    let Number::Value(bare) = script_fields::number_field(bare_text) else {
         return Line::Unreadable;
     };
-    let Optional::Found(block1) = fields::option_field(text1, first) else {
+    let Optional::Found(block1) = script_fields::option_field(text1, first) else {
         return Line::Unreadable;
     };
-    let Optional::Found(block2) = fields::option_field(text2, second) else {
+    let Optional::Found(block2) = script_fields::option_field(text2, second) else {
         return Line::Unreadable;
     };
-    let Decoded::Bytes(p) = fields::bytes_field(payload_text, payload) else {
+    let Decoded::Bytes(p) = script_fields::bytes_field(payload_text, payload) else {
         return Line::Unreadable;
     };
     Line::Request(Request {
@@ -130,25 +129,25 @@ fn response_of<'a>(
     ensures { λ r. ⌜ ((second : Bytes) → saidBy r (now (key .exit)) (now (first .exit)) second (now (payload .exit)) ≡ responseOf (now («time_text» .entry)) (now («key_text» .entry)) (now («bare_text» .entry)) (now («own_text» .entry)) (now («head_text» .entry)) (now («payload_text» .entry))) ⌝ }
     ensures { λ r. ⌜ ((second : Bytes) → InBuffers r (now (key .exit)) (now (first .exit)) second (now (payload .exit))) ⌝ }
 {
-    let Number::Value(time) = fields::number_field(time_text) else {
+    let Number::Value(time) = script_fields::number_field(time_text) else {
         return Line::Unreadable;
     };
-    let Decoded::Bytes(k) = fields::bytes_field(key_text, key) else {
+    let Decoded::Bytes(k) = script_fields::bytes_field(key_text, key) else {
         return Line::Unreadable;
     };
-    let Number::Value(bare) = fields::number_field(bare_text) else {
+    let Number::Value(bare) = script_fields::number_field(bare_text) else {
         return Line::Unreadable;
     };
-    let Number::Value(own) = fields::number_field(own_text) else {
+    let Number::Value(own) = script_fields::number_field(own_text) else {
         return Line::Unreadable;
     };
     if 1 < own {
         return Line::Unreadable;
     }
-    let Decoded::Bytes(head) = fields::bytes_field(head_text, first) else {
+    let Decoded::Bytes(head) = script_fields::bytes_field(head_text, first) else {
         return Line::Unreadable;
     };
-    let Decoded::Bytes(p) = fields::bytes_field(payload_text, payload) else {
+    let Decoded::Bytes(p) = script_fields::bytes_field(payload_text, payload) else {
         return Line::Unreadable;
     };
     Line::Response(Response {

@@ -1,4 +1,4 @@
-use Rattle.script.proofs.Numbers.{number-good, number-bad}
+use Rattle.script_fields.proofs.Numbers.{number-good, number-bad}
 use Rattle.replay_text.specs.Control.{startOf}
 use Rattle.replay_text.proofs.Controls.{is, is-not, a-mode, no-mode}
 use borrow.Author.Needs.{needs}

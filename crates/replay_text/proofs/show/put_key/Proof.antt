@@ -3,8 +3,8 @@ use Prim.Native.Nat.{ℕ}
 use native.Mathlib.Nat.{sub-zero}
 use lib.ListN.{take}
 use lib.Seq.{take-all}
-use Rattle.script.specs.Text.{hex}
-use Rattle.script.proofs.Puts.{put-as}
+use Rattle.script_text.specs.Text.{hex}
+use Rattle.script_text.proofs.Puts.{put-as}
 use borrow.Author.Needs.{needs}
 use Rattle.replay_text.proofs.show.put_key.Statement.{statement}
 use Rattle.replay_text.proofs.show.put_key.Tie as tie

@@ -1,4 +1,4 @@
-use Rattle.script.proofs.Puts.{put-as}
+use Rattle.script_text.proofs.Puts.{put-as}
 use Rattle.replay_text.specs.State.{recordedText}
 use borrow.Author.Tests.{not-true, not-false}
 use borrow.Author.Needs.{needs}

@@ -1,4 +1,4 @@
-use Rattle.script.proofs.Puts.{put-then, put-as}
+use Rattle.script_text.proofs.Puts.{put-then, put-as}
 use Rattle.replay_text.specs.State.{whoText}
 use Rattle.block_table.specs.Keys.{keyOf}
 use borrow.Author.Needs.{needs}

@@ -1,4 +1,4 @@
-use Rattle.script.proofs.Puts.{put-as}
+use Rattle.script_text.proofs.Puts.{put-as}
 use Rattle.replay_text.specs.State.{wordText}
 use borrow.Author.Needs.{needs}
 use Rattle.replay_text.proofs.show.put_word.Statement.{statement}

@@ -2,10 +2,10 @@ use mathlib.Core.Path.{_≡_, refl, sym, ap, _∙_}
 use native.Mathlib.Omega.{arith}
 use Prim.Native.Nat.{_-_}
 use Rattle.runner.proofs.Lining.{leaves-fronts, world-by, from-start, lent-length}
-use Rattle.script.proofs.Puts.{put-as}
+use Rattle.script_text.proofs.Puts.{put-as}
 use Rattle.script.specs.Line.{lineOf}
 use Rattle.block_handler.specs.Call.{World}
-use Rattle.runner.specs.Run.{worldAfter, textAfter}
+use Rattle.script_call.specs.Run.{worldAfter, textAfter}
 use Rattle.runner.specs.Lines.{memoryOf, called, worldIn}
 use borrow.Author.Needs.{needs}
 use Rattle.runner.proofs.line.run.Statement.{statement}

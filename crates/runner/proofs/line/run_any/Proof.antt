@@ -1,6 +1,6 @@
 use mathlib.Core.Path.{_≡_, refl, sym, ap, _∙_}
 use native.Mathlib.Omega.{arith}
-use Rattle.script.proofs.Puts.{put-as}
+use Rattle.script_text.proofs.Puts.{put-as}
 use Rattle.replay_text.specs.declared.Control.{Control}
 use Rattle.runner.specs.Lines.{After, controlled, worldIn}
 use Rattle.runner.proofs.Lining.{leaves-same, long-line, script-line, replay-line}

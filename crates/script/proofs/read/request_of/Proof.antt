@@ -1,5 +1,5 @@
-use Rattle.script.proofs.Pairs.{bytes-good, bytes-bad, option-good, option-bad}
-use Rattle.script.proofs.Numbers.{number-good, number-bad}
+use Rattle.script_fields.proofs.Pairs.{bytes-good, bytes-bad, option-good, option-bad}
+use Rattle.script_fields.proofs.Numbers.{number-good, number-bad}
 use Rattle.script.specs.Line.{requestOf}
 use borrow.Author.Needs.{needs}
 use Rattle.script.proofs.read.request_of.Statement.{statement}

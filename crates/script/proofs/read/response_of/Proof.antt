@@ -1,5 +1,5 @@
-use Rattle.script.proofs.Pairs.{bytes-good, bytes-bad}
-use Rattle.script.proofs.Numbers.{number-good, number-bad, own-small, own-large}
+use Rattle.script_fields.proofs.Pairs.{bytes-good, bytes-bad}
+use Rattle.script_fields.proofs.Numbers.{number-good, number-bad, own-small, own-large}
 use Rattle.script.specs.Line.{responseOf}
 use borrow.Author.Needs.{needs}
 use Rattle.script.proofs.read.response_of.Statement.{statement}

@@ -1,0 +1,131 @@
+// The fields of a line: decimals, bytes in hex, and block options.
+use crate::Decoded;
+use crate::Found;
+use crate::Number;
+use crate::Optional;
+ghost use mathlib.Core.Path.{_≡_};
+ghost use mathlib.Core.Bool.{true};
+ghost use Prim.Native.Nat.{_*_, _≤_, _<_};
+ghost use lib.ListN.{length};
+ghost use Rattle.script_fields.specs.Fields.{isDigit, numberOf, nibble, bytesOf, decodedOf, optionOf, optionBytes, isMark, pairsDecoded, pairsOf, Filled, FilledOption};
+
+fn wide(x: u8) -> u64
+    ensures { λ r. ⌜ (r ≡ x) × (r < 256) ⌝ }
+{
+    x as u64
+}
+
+fn is_digit(x: u8) -> bool
+    ensures { λ r. ⌜ r ≡ isDigit x ⌝ }
+{
+    (48 <= x) & (x <= 57)
+}
+
+// A decimal of any length, leading zeros too, that fits 64 bits.
+pub fn number_field(text: &[u8]) -> Number
+    ensures { λ r. ⌜ r ≡ numberOf (now (text .entry)) ⌝ }
+{
+    if text.len() == 0 {
+        return Number::Bad;
+    }
+    let mut sum: u64 = 0;
+    let mut i = 0;
+    while i < text.len() {
+        let x = text[i];
+        if !is_digit(x) {
+            return Number::Bad;
+        }
+        let d = wide(x) - 48;
+        if 1844674407370955161 < sum {
+            return Number::Bad;
+        }
+        if 18446744073709551615 - d < sum * 10 {
+            return Number::Bad;
+        }
+        sum = sum * 10 + d;
+        i += 1;
+    }
+    Number::Value(sum)
+}
+
+// The number of a hex digit; 16 for any other byte.
+fn nibble_of(x: u8) -> u8
+    ensures { λ r. ⌜ (r ≡ nibble x) × (r ≤ 16) ⌝ }
+{
+    if (48 <= x) & (x <= 57) {
+        return x - 48;
+    }
+    if (97 <= x) & (x <= 102) {
+        return x - 87;
+    }
+    16
+}
+
+fn is_mark(text: &[u8], mark: u8) -> bool
+    ensures { λ r. ⌜ r ≡ isMark (now (text .entry)) mark ⌝ }
+{
+    if text.len() != 1 {
+        return false;
+    }
+    text[0] == mark
+}
+
+// Pairs of hex digits, lower case, into the start of a buffer.
+fn decode_pairs(text: &[u8], out: &mut [u8]) -> Decoded
+    requires { ⌜ length (now text) ≤ 2 * length (now out) ⌝ }
+    ensures { λ r. ⌜ r ≡ pairsDecoded (now (text .entry)) ⌝ }
+    ensures { λ r. ⌜ Filled r (pairsOf (now (text .entry))) (now (out .exit)) ⌝ }
+{
+    let mut i: usize = 0;
+    let mut k: usize = 0;
+    while i < text.len() {
+        if text.len() - i == 1 {
+            return Decoded::Bad;
+        }
+        let high = nibble_of(text[i]);
+        let low = nibble_of(text[i + 1]);
+        if high == 16 {
+            return Decoded::Bad;
+        }
+        if low == 16 {
+            return Decoded::Bad;
+        }
+        out[k] = high * 16 + low;
+        i += 2;
+        k += 1;
+    }
+    Decoded::Bytes(k)
+}
+
+// Bytes in hex; a dot is no bytes.
+pub fn bytes_field(text: &[u8], out: &mut [u8]) -> Decoded
+    requires { ⌜ length (now text) ≤ 2 * length (now out) ⌝ }
+    ensures { λ r. ⌜ r ≡ decodedOf (now (text .entry)) ⌝ }
+    ensures { λ r. ⌜ Filled r (bytesOf (now (text .entry))) (now (out .exit)) ⌝ }
+{
+    if is_mark(text, b'.') {
+        return Decoded::Bytes(0);
+    }
+    if text.len() == 0 {
+        return Decoded::Bad;
+    }
+    decode_pairs(text, out)
+}
+
+// Bytes in hex, or a dash for an option that is absent.
+pub fn option_field(text: &[u8], out: &mut [u8]) -> Optional
+    requires { ⌜ length (now text) ≤ 2 * length (now out) ⌝ }
+    ensures { λ r. ⌜ r ≡ optionOf (now (text .entry)) ⌝ }
+    ensures { λ r. ⌜ FilledOption r (optionBytes (now (text .entry))) (now (out .exit)) ⌝ }
+{
+    if is_mark(text, b'-') {
+        return Optional::Found(Found {
+            given: false,
+            len: 0,
+        });
+    }
+    match bytes_field(text, out) {
+        Decoded::Bytes(len) => Optional::Found(Found { given: true, len }),
+        Decoded::Bad => Optional::Bad,
+    }
+}
