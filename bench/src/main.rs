@@ -3,18 +3,22 @@
 mod inputs;
 mod sides;
 mod standins;
+mod steps;
 
 use std::hint::black_box;
 
 use block_handler::RequestAnswer;
 
 use self::inputs::{block, Call, KEYS};
-use self::sides::{Sides, Times};
+use self::sides::{per_call, Sides, Times};
 
 const KIB: usize = 1024;
 const BLOCKS: usize = 64;
 const CHUNKS: usize = 60;
 const REPETITIONS: usize = 400;
+
+/// How many calls are timed together where one is too short for the clock.
+const CALLS: usize = 256;
 
 fn main() {
     println!("# NAME OURS_NS RUST_NS RATIO: medians of {REPETITIONS} repetitions, nanoseconds for each call; RATIO is ours by the Rust's");
@@ -26,6 +30,7 @@ fn main() {
     plain(KEYS);
     plain(1);
     middle();
+    steps::print();
     standins::print();
 }
 
@@ -99,7 +104,7 @@ fn asking(num: usize) -> Vec<Call> {
 /// Row c: requests that are passed on, with so many keys live. The Rust leaves such a packet as it was, so it is used again.
 fn plain(keys: usize) {
     let mut sides = Sides::new();
-    let calls: Vec<Call> = (0..256).map(|i| Call::new(i % keys, None, None, vec![7; 16])).collect();
+    let calls: Vec<Call> = (0..CALLS).map(|i| Call::new(i % keys, None, None, vec![7; 16])).collect();
     sides.agree(&calls);
     let mut packets = calls.iter().map(Call::packet).collect();
     let times: Vec<Times> = (0..REPETITIONS).map(|i| sides.time(&calls, &mut packets, i % 2 == 0)).collect();
@@ -126,7 +131,12 @@ fn row(name: &str, times: &[Times]) {
     println!("{name} {ours:.0} {theirs:.0} {:.2}", ours / theirs);
 }
 
-pub fn median(mut times: Vec<f64>) -> f64 {
+/// Nanoseconds for one of many, all the same.
+fn timed(mut one: impl FnMut()) -> f64 {
+    median((0..REPETITIONS).map(|_| per_call(CALLS, || (0..CALLS).for_each(|_| one()))).collect())
+}
+
+fn median(mut times: Vec<f64>) -> f64 {
     times.sort_by(f64::total_cmp);
     times[times.len() / 2]
 }

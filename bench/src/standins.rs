@@ -10,9 +10,7 @@ use lru_time_cache::LruCache;
 
 use crate::inputs::{block, Call, BARE, KEYS};
 use crate::sides::per_call;
-use crate::{median, REPETITIONS};
-
-const CALLS: usize = 256;
+use crate::{median, timed, CALLS, REPETITIONS};
 
 pub fn print() {
     println!("# Stand-ins within the Rust's times, nanoseconds for each use:");
@@ -25,10 +23,6 @@ pub fn print() {
 
 fn print_one(what: &str, nanos: f64) {
     println!("#   {what}: {nanos:.0}");
-}
-
-fn timed(mut one: impl FnMut()) -> f64 {
-    median((0..REPETITIONS).map(|_| per_call(CALLS, || (0..CALLS).for_each(|_| one()))).collect())
 }
 
 fn response() -> Packet {
