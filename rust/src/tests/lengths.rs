@@ -160,7 +160,7 @@ fn damaged_tables() {
             pair.call(&calls, &call);
         }
     }
-    println!("{seen:?}");
+    println!("damaged tables: {seen:?}");
     let within: u64 = seen.iter().filter(|(name, _)| **name != "1").map(|(_, n)| n).sum();
     assert!(seen["1"] > 1000 && within > 1000);
 }

@@ -33,7 +33,7 @@ fn random_calls() {
             *seen.entry(name).or_insert(0) += n;
         }
     }
-    println!("{seen:?}");
+    println!("random calls: {seen:?}");
     assert!(seen.keys().eq(&ANSWERS), "each answer and each refusal was given: {seen:?}");
 }
 
@@ -43,12 +43,12 @@ fn large_pieces() {
     let config = BlockHandlerConfig { max_total_message_size: 3000, strict: false, ..BlockHandlerConfig::default() };
     let mut pair = Pair::new(config);
     pair.run(&mut Calls::new(2, config, 16), 2000);
-    println!("{:?}", pair.seen);
+    println!("large pieces: {:?}", pair.seen);
 }
 
 /// Ten million calls for sixteen keys, half of them in each mode, each half on one handler.
 #[test]
-#[ignore = "about a minute, and only in a release build: cargo test --release -- --ignored --nocapture soak"]
+#[ignore = "half a minute in a release build: cargo test --release -- --ignored --nocapture soak"]
 fn soak() {
     for strict in [false, true] {
         let config = BlockHandlerConfig {
@@ -61,6 +61,6 @@ fn soak() {
         let mut pair = Pair::new(config);
         let start = Instant::now();
         pair.run(&mut Calls::new(3, config, 16), 5_000_000);
-        println!("strict {strict}: 5,000,000 calls, 0 differences, {:.1} s: {:?}", start.elapsed().as_secs_f64(), pair.seen);
+        println!("soak, strict {strict}: 5,000,000 calls, 0 differences, {:.1} s: {:?}", start.elapsed().as_secs_f64(), pair.seen);
     }
 }
