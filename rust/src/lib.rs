@@ -1,0 +1,91 @@
+//! Block-wise transfers for CoAP (RFC 7959): a safe crate over the proved block handler.
+//!
+//! The handler is the module `block_handler` of the crate coap-lite 0.13.3, ported to Rattle and proved there: no call with any bytes
+//! or numbers reads or writes outside its memory, and what is refused gets one of ten numbers ([`Refusal`]). This crate links its
+//! static library and gives it a Rust face, with coap-lite's names where they fit. It has no dependencies, and it copies nothing:
+//! bodies, chunks and heads are borrowed from the handler's memories or from the message itself.
+//!
+//! Packets, sockets and clocks stay with the caller. A call is told the time, a key that tells transfers apart (as sender, method and
+//! path), the bytes of the two Block options and the payload.
+//!
+//! # A price list, pushed in blocks
+//!
+//! The sender cuts its list into blocks of 64 bytes. All but the last are answered 2.31 Continue; the last one hands the whole list on.
+//!
+//! ```
+//! use block_handler::{BlockHandler, BlockHandlerConfig, BlockValue, Request, RequestAnswer};
+//!
+//! let mut handler = BlockHandler::new(BlockHandlerConfig::default());
+//! let list = b"milk 1.19\nbread 2.49\n".repeat(10);
+//!
+//! let last = (list.len() - 1) / 64;
+//! for (num, block) in list.chunks(64).enumerate() {
+//!     let block1 = BlockValue::new(num, num < last, 64)?.write();
+//!     let request = Request {
+//!         time: 1000 + num as u64,
+//!         key: b"lane 7 PUT /prices",
+//!         bare: 20, // the length of the message without its payload
+//!         block1: Some(&block1),
+//!         payload: block,
+//!         ..Request::default()
+//!     };
+//!     match handler.intercept_request(&request)? {
+//!         RequestAnswer::Continue { block1 } => assert_eq!(block1.num as usize, num), // send 2.31 with this Block1 option
+//!         RequestAnswer::Handed { body, .. } => assert_eq!(body, list),               // the application takes the list
+//!         other => panic!("not expected: {other:?}"),
+//!     }
+//! }
+//! # Ok::<(), Box<dyn std::error::Error>>(())
+//! ```
+//!
+//! # A page, fetched in blocks
+//!
+//! The application answers a request with a page that is too long for one message. Its first chunk goes out, and the handler keeps the
+//! page and serves the other chunks itself.
+//!
+//! ```
+//! use block_handler::{BlockHandler, BlockHandlerConfig, BlockValue, Request, RequestAnswer, Response, ResponseAnswer};
+//!
+//! let mut handler = BlockHandler::new(BlockHandlerConfig { max_total_message_size: 100, ..BlockHandlerConfig::default() });
+//! let page = b"three for two! ".repeat(20);
+//! let request = Request { time: 1000, key: b"screen 3 GET /offers", bare: 24, ..Request::default() };
+//!
+//! // The request passes to the application, whose response is cut.
+//! assert_eq!(handler.intercept_request(&request)?, RequestAnswer::Pass { body: b"" });
+//! let response = Response { time: 1001, key: request.key, bare: 20, head: b"2.05", payload: &page, ..Response::default() };
+//! let ResponseAnswer::First { block2, chunk } = handler.intercept_response(&response)? else { panic!("the page is long") };
+//!
+//! // The screen asks for the other chunks, one by one.
+//! let mut fetched = chunk.to_vec();
+//! let mut more = block2.more;
+//! while more {
+//!     let asked = BlockValue::new(fetched.len() / block2.size(), false, block2.size())?.write();
+//!     let request = Request { time: 1002, block2: Some(&asked), ..request };
+//!     let RequestAnswer::Served { block2, head, chunk, .. } = handler.intercept_request(&request)? else { panic!("it is cached") };
+//!     assert_eq!(head, b"2.05");
+//!     fetched.extend_from_slice(chunk);
+//!     more = block2.more;
+//! }
+//! assert_eq!(fetched, page);
+//! # Ok::<(), Box<dyn std::error::Error>>(())
+//! ```
+//!
+//! # Building
+//!
+//! The build script looks for `libhandler_c.a` in `../target/staticlib`, where `rt staticlib handler_c` writes it, or in the folder that
+//! the environment variable `BLOCK_HANDLER_LIB` names. The archive is for x86-64 Linux.
+
+#![deny(unsafe_code)]
+#![warn(missing_docs)]
+
+mod block_value;
+#[allow(unsafe_code)]
+mod ffi;
+mod handler;
+mod refusal;
+#[cfg(test)]
+mod tests;
+
+pub use block_value::{BlockOption, BlockValue, InvalidBlockValue};
+pub use handler::{BlockHandler, BlockHandlerConfig, Request, RequestAnswer, Response, ResponseAnswer, ENTRIES};
+pub use refusal::Refusal;

@@ -1,0 +1,242 @@
+//! Random calls, chosen with an eye on the table: most go on with what a key has begun, some are odd, a few are off the limits.
+
+use crate::ffi::{BlockState, Entry, Table};
+use crate::{BlockHandlerConfig, Request, Response};
+
+/// Random numbers, the same in each run (the generator is SplitMix64).
+pub struct Random(pub u64);
+
+impl Random {
+    pub fn next(&mut self) -> u64 {
+        self.0 = self.0.wrapping_add(0x9e37_79b9_7f4a_7c15);
+        let mut z = self.0;
+        z = (z ^ (z >> 30)).wrapping_mul(0xbf58_476d_1ce4_e5b9);
+        z = (z ^ (z >> 27)).wrapping_mul(0x94d0_49bb_1331_11eb);
+        z ^ (z >> 31)
+    }
+
+    pub fn below(&mut self, n: u64) -> u64 {
+        self.next() % n.max(1)
+    }
+
+    pub fn up_to(&mut self, n: usize) -> usize {
+        self.below(n as u64 + 1) as usize
+    }
+
+    pub fn percent(&mut self, n: u64) -> bool {
+        self.below(100) < n
+    }
+
+    pub fn one_of<T: Copy>(&mut self, items: &[T]) -> T {
+        items[self.below(items.len() as u64) as usize]
+    }
+}
+
+/// The bytes of an option: the first of them, up to three.
+#[derive(Debug, Clone, Copy)]
+pub struct OptionBytes {
+    bytes: [u8; 3],
+    len: usize,
+}
+
+impl OptionBytes {
+    /// In two bytes where it fits there, which is not always the shortest form, and in three elsewhere.
+    fn of(num: u64, more: bool, exponent: u8) -> Self {
+        let scalar = (num * 16 + u64::from(more) * 8 + u64::from(exponent)) as u32;
+        let [_, a, b, c] = scalar.to_be_bytes();
+        match scalar {
+            0 => Self { bytes: [0; 3], len: 0 },
+            1..=0xff => Self { bytes: [c, 0, 0], len: 1 },
+            0x100..=0xffff => Self { bytes: [b, c, 0], len: 2 },
+            _ => Self { bytes: [a, b, c], len: 3 },
+        }
+    }
+
+    fn bytes(&self) -> &[u8] {
+        &self.bytes[..self.len]
+    }
+}
+
+/// A call by its lengths; `Calls` has the bytes.
+#[derive(Debug, Clone, Copy)]
+pub struct Call {
+    pub time: u64,
+    pub key: usize,
+    pub bare: usize,
+    pub what: What,
+}
+
+#[derive(Debug, Clone, Copy)]
+pub enum What {
+    Request { block1: Option<OptionBytes>, block2: Option<OptionBytes>, payload: (usize, usize) },
+    Response { own_block2: bool, head: usize, payload: (usize, usize) },
+}
+
+pub struct Calls {
+    pub random: Random,
+    config: BlockHandlerConfig,
+    keys: Vec<Vec<u8>>,
+    /// Payloads and heads are parts of this.
+    pool: Vec<u8>,
+}
+
+const POOL: usize = 4096;
+
+impl Calls {
+    /// Calls for so many keys, which share a prefix.
+    pub fn new(seed: u64, config: BlockHandlerConfig, keys: usize) -> Self {
+        let mut random = Random(seed);
+        let prefix = random.up_to(62);
+        let key = |i: usize| {
+            let mut key = vec![b'k'; prefix];
+            key.extend(if i < 26 { vec![b'a' + i as u8] } else { vec![b'a', i as u8] });
+            key
+        };
+        let keys = (0..keys).map(key).collect();
+        let pool = (0..65_536 + POOL).map(|_| random.next() as u8).collect();
+        Self { random, config, keys, pool }
+    }
+
+    pub fn request<'a>(&'a self, call: &'a Call) -> Option<Request<'a>> {
+        let What::Request { block1, block2, payload } = &call.what else { return None };
+        Some(Request {
+            time: call.time,
+            key: self.key(call.key),
+            bare: call.bare,
+            block1: block1.as_ref().map(OptionBytes::bytes),
+            block2: block2.as_ref().map(OptionBytes::bytes),
+            payload: self.bytes(*payload),
+        })
+    }
+
+    pub fn response<'a>(&'a self, call: &'a Call) -> Option<Response<'a>> {
+        let What::Response { own_block2, head, payload } = call.what else { return None };
+        Some(Response {
+            time: call.time,
+            key: self.key(call.key),
+            bare: call.bare,
+            own_block2,
+            head: self.bytes((payload.0 / 2, head)),
+            payload: self.bytes(payload),
+        })
+    }
+
+    /// Past the keys that are in limits stand an empty one and one of 65 bytes.
+    fn key(&self, i: usize) -> &[u8] {
+        match self.keys.get(i) {
+            Some(key) => key,
+            None if i == self.keys.len() => &[],
+            None => &self.pool[..65],
+        }
+    }
+
+    fn bytes(&self, (at, len): (usize, usize)) -> &[u8] {
+        &self.pool[at..at + len]
+    }
+
+    /// The next call, for a table as it stands.
+    pub fn next(&mut self, table: &Table) -> Call {
+        let odd = self.random.below(400) == 0;
+        let keys = self.keys.len() as u64 + if odd { 2 } else { 0 };
+        let key = self.random.below(keys) as usize;
+        let state = self.state(table, key);
+        let bare = self.bare();
+        let what = if self.random.percent(25) { self.some_response(state) } else { self.some_request(state) };
+        Call { time: self.time(table.clock), key, bare, what }
+    }
+
+    fn state(&self, table: &Table, key: usize) -> BlockState {
+        let key = self.key(key);
+        let holds = |e: &&Entry| e.used && e.key.bytes.get(..usize::from(e.key.len)) == Some(key);
+        table.entries.iter().find(holds).map_or_else(BlockState::default, |e| e.state)
+    }
+
+    /// Mostly soon after the clock, at times late enough for a lifetime to end, and at times too early.
+    fn time(&mut self, clock: u64) -> u64 {
+        let lifetime = self.config.cache_expiry_duration.as_millis() as u64;
+        match self.random.below(1000) {
+            0 => clock.saturating_sub(1 + self.random.below(3)),
+            1..=2 => clock.saturating_add(lifetime - 1 + self.random.below(3)),
+            3..=9 => clock.saturating_add(self.random.below(lifetime)),
+            _ => clock.saturating_add(self.random.below(lifetime / 64 + 2)),
+        }
+    }
+
+    /// Mostly with room for a block, at times with just none, and at times off the limits.
+    fn bare(&mut self) -> usize {
+        let t = self.config.max_total_message_size;
+        match self.random.below(100) {
+            0 => 65_535 + self.random.up_to(1),
+            1..=5 => t.saturating_sub(12).saturating_sub(self.random.up_to(2)) + self.random.up_to(1),
+            6..=20 => self.random.up_to(t),
+            _ => self.random.up_to(t / 4),
+        }
+    }
+
+    fn part(&mut self, len: usize) -> (usize, usize) {
+        (self.random.up_to(POOL - 1), len)
+    }
+
+    fn some_request(&mut self, state: BlockState) -> What {
+        let (block1, len) = match self.random.below(100) {
+            0..=54 => self.next_block(state),
+            55..=69 => self.odd_block(state),
+            70..=72 => (Some(OptionBytes { bytes: [0, 0, 8], len: 3 }), self.random.up_to(64)),
+            _ => (None, self.length(self.config.max_total_message_size / 2)),
+        };
+        let block2 = if self.random.percent(30) { Some(self.some_block2(state)) } else { None };
+        What::Request { block1, block2, payload: self.part(len) }
+    }
+
+    /// A length up to that, with the ends more often than the rest, and at times one off the limits.
+    fn length(&mut self, most: usize) -> usize {
+        match self.random.below(400) {
+            0 => 65_535 + self.random.up_to(1),
+            1..=40 => 0,
+            41..=80 => most,
+            _ => self.random.up_to(most),
+        }
+    }
+
+    /// The block that goes on with the assembly, or block 0: full if more follow, and no longer if it is the last.
+    fn next_block(&mut self, state: BlockState) -> (Option<OptionBytes>, usize) {
+        let anew = state.assembled.len == 0 || self.random.percent(3);
+        let most = self.config.max_upload.max(16).ilog2().min(10) - 4;
+        let exponent = if anew { self.random.up_to(most as usize) as u8 } else { state.assembled.exponent };
+        let size = 16 << exponent;
+        let num = if anew { 0 } else { u64::from(state.assembled.len) / size };
+        // The last block comes where the piece is nearly full, and at times a block too many.
+        let room = u64::from(state.assembled.len) + 2 * size <= self.config.max_upload as u64;
+        let more = self.random.percent(if room { 85 } else { 10 });
+        let len = if more { size as usize } else { self.random.up_to(size as usize) };
+        (Some(OptionBytes::of(num, more, exponent)), len)
+    }
+
+    fn odd_block(&mut self, state: BlockState) -> (Option<OptionBytes>, usize) {
+        let exponent = self.random.below(8) as u8;
+        let near = u64::from(state.assembled.len) >> (exponent + 4);
+        let num = match self.random.below(10) {
+            0 => self.random.below(4096),
+            1 => (16_384 >> (exponent + 4)) + near + self.random.below(2) - 1,
+            _ => self.random.below(near + 3),
+        };
+        let len = self.length((16 << exponent) + 2);
+        (Some(OptionBytes::of(num, self.random.percent(60), exponent)), len)
+    }
+
+    /// A chunk of the cached response, or one past its end, or any.
+    fn some_block2(&mut self, state: BlockState) -> OptionBytes {
+        let exponent = if self.random.percent(10) { self.random.below(8) } else { self.random.below(3) } as u8;
+        let chunks = u64::from(state.cached.payload) >> (exponent + 4);
+        let num = if self.random.percent(2) { self.random.below(70_000) } else { self.random.below(chunks + 2) };
+        OptionBytes::of(num, self.random.percent(10), exponent)
+    }
+
+    fn some_response(&mut self, state: BlockState) -> What {
+        let head = if self.random.percent(1) { 127 + self.random.up_to(2) } else { self.random.up_to(20) };
+        let asked = state.recorded.num as usize * (16 << (state.recorded.exponent % 8));
+        let most = self.config.max_response.max(asked.min(2048)) + 16;
+        let len = self.length(most).min(65_536);
+        What::Response { own_block2: self.random.percent(5), head, payload: self.part(len) }
+    }
+}

@@ -1,0 +1,166 @@
+//! Off the limits: refusal 1, and nothing is changed. Nobody has to check first.
+
+use std::collections::BTreeMap;
+use std::time::Duration;
+
+use super::calls::{Calls, Random};
+use super::Pair;
+use crate::ffi::{fresh, Entry, Table};
+use crate::{BlockHandler, BlockHandlerConfig, Refusal, Request, RequestAnswer, Response};
+
+const CONFIG: BlockHandlerConfig = BlockHandlerConfig {
+    max_total_message_size: 100,
+    cache_expiry_duration: Duration::from_millis(1000),
+    strict: false,
+    max_upload: 64,
+    max_response: 48,
+};
+
+const REQUEST: Request = Request { time: 5, key: b"lane 1", bare: 20, block1: None, block2: None, payload: b"16 bytes of page" };
+const RESPONSE: Response = Response { time: 5, key: b"lane 1", bare: 20, own_block2: false, head: b"head", payload: b"page" };
+
+fn refused(handler: &mut BlockHandler, request: &Request) {
+    let before = handler.clone();
+    assert_eq!(handler.intercept_request(request), Err(Refusal::OffLimits));
+    let response = Response { time: request.time, key: request.key, bare: request.bare, payload: request.payload, ..RESPONSE };
+    assert_eq!(handler.intercept_response(&response), Err(Refusal::OffLimits));
+    assert_eq!(handler.table, before.table);
+    assert!(handler.upload == before.upload && handler.response == before.response);
+}
+
+fn taken(handler: &mut BlockHandler, request: &Request) {
+    assert_eq!(handler.intercept_request(request), Ok(RequestAnswer::Pass { body: request.payload }));
+}
+
+#[test]
+fn memories_of_another_length() {
+    for (upload, response) in [(64, 48), (63, 48), (65, 48), (64, 47), (64, 49), (48, 64), (0, 48), (64, 0), (0, 0)] {
+        for more in [0, 1] {
+            let (upload, response) = (vec![7; 16 * upload + more], vec![7; 16 * response + more]);
+            let right = upload.len() == 16 * 64 && response.len() == 16 * 48;
+            let mut handler = BlockHandler::with_memories(CONFIG, upload, response);
+            if right {
+                taken(&mut handler, &REQUEST);
+            } else {
+                refused(&mut handler, &REQUEST);
+            }
+        }
+    }
+}
+
+#[test]
+fn configurations() {
+    let millis = Duration::from_millis;
+    let off = [
+        BlockHandlerConfig { max_total_message_size: 0, ..CONFIG },
+        BlockHandlerConfig { max_total_message_size: 65_536, ..CONFIG },
+        BlockHandlerConfig { max_total_message_size: usize::MAX, ..CONFIG },
+        BlockHandlerConfig { cache_expiry_duration: Duration::from_micros(999), ..CONFIG },
+        BlockHandlerConfig { cache_expiry_duration: millis(4_294_967_296), ..CONFIG },
+        BlockHandlerConfig { cache_expiry_duration: Duration::MAX, ..CONFIG },
+        BlockHandlerConfig { max_upload: 15, ..CONFIG },
+        BlockHandlerConfig { max_upload: 65_537, ..CONFIG },
+        BlockHandlerConfig { max_upload: usize::MAX, ..CONFIG },
+        BlockHandlerConfig { max_upload: 1 << 60, max_response: 1 << 60, ..CONFIG },
+        BlockHandlerConfig { max_response: 15, ..CONFIG },
+        BlockHandlerConfig { max_response: 65_537, ..CONFIG },
+    ];
+    for config in off {
+        refused(&mut BlockHandler::new(config), &REQUEST);
+    }
+    let within = [
+        BlockHandlerConfig { max_total_message_size: 65_535, ..CONFIG },
+        BlockHandlerConfig { cache_expiry_duration: millis(1), ..CONFIG },
+        BlockHandlerConfig { cache_expiry_duration: millis(4_294_967_295), ..CONFIG },
+        BlockHandlerConfig { max_upload: 16, max_response: 16, ..CONFIG },
+        BlockHandlerConfig { max_upload: 65_536, max_response: 65_536, ..CONFIG },
+    ];
+    for config in within {
+        taken(&mut BlockHandler::new(config), &REQUEST);
+    }
+}
+
+#[test]
+fn messages() {
+    let long = vec![1; 70_000];
+    let mut handler = BlockHandler::new(BlockHandlerConfig { max_total_message_size: 65_535, ..CONFIG });
+    for key in [&long[..0], &long[..65], &long] {
+        refused(&mut handler, &Request { key, ..REQUEST });
+    }
+    for bare in [65_536, usize::MAX - 12, usize::MAX] {
+        refused(&mut handler, &Request { bare, ..REQUEST });
+    }
+    for payload in [&long[..65_536], &long] {
+        refused(&mut handler, &Request { payload, ..REQUEST });
+    }
+    for head in [&long[..129], &long] {
+        assert_eq!(handler.intercept_response(&Response { head, ..RESPONSE }), Err(Refusal::OffLimits));
+    }
+    assert_eq!(handler.table, fresh());
+    for key in [&long[..1], &long[..64]] {
+        taken(&mut handler, &Request { key, ..REQUEST });
+    }
+    assert!(handler.intercept_response(&Response { head: &long[..128], ..RESPONSE }).is_ok());
+    taken(&mut handler, &Request { payload: &long[..65_000], ..REQUEST });
+}
+
+#[test]
+fn options_of_any_length() {
+    let long = vec![0; 5000];
+    let mut handler = BlockHandler::new(CONFIG);
+    for option in [&long[..3], &long] {
+        taken(&mut handler, &Request { block1: Some(option), block2: Some(option), ..REQUEST });
+    }
+}
+
+/// Changes one field of one entry, or the clock. Some of what comes out is still within the limits.
+fn damage(random: &mut Random, table: &mut Table) {
+    let number = random.one_of(&[0, 1, 16, 48, 49, 64, 65, 1_048_575, 1_048_576, u32::MAX]);
+    let byte = random.one_of(&[0, 1, 7, 8, 64, 65, 128, 129, 255]);
+    let (i, j) = (random.below(16) as usize, random.below(16) as usize);
+    let twin = table.entries[j];
+    let e: &mut Entry = &mut table.entries[i];
+    match random.below(16) {
+        0 => e.used = !e.used,
+        1 => e.key.len = byte,
+        2 => e.key.bytes[usize::from(byte % 64)] ^= 1,
+        3 => e.key = twin.key,
+        4 => e.touched = e.touched.wrapping_add(number.into()),
+        5 => e.state.assembled.len = number,
+        6 => e.state.assembled.exponent = byte,
+        7 => e.state.cached.held = !e.state.cached.held,
+        8 => e.state.cached.head = byte,
+        9 => e.state.cached.payload = number,
+        10 => e.state.recorded.given = !e.state.recorded.given,
+        11 => e.state.recorded.more = !e.state.recorded.more,
+        12 => e.state.recorded.exponent = byte,
+        13 => e.state.recorded.num = number,
+        14 => *e = twin,
+        _ => table.clock = random.one_of(&[0, table.clock.saturating_sub(1), table.clock + 1, u64::MAX]),
+    }
+}
+
+/// A table may come from anywhere. The model says which ones are off the limits, and what follows if one is not.
+#[test]
+fn damaged_tables() {
+    let mut random = Random(4);
+    let mut seen = BTreeMap::new();
+    for seed in 0..100 {
+        let config = BlockHandlerConfig { strict: seed % 2 == 0, ..CONFIG };
+        let mut calls = Calls::new(seed, config, random.one_of(&[3, 15, 16]));
+        let mut pair = Pair::new(config);
+        pair.run(&mut calls, 200);
+        for _ in 0..100 {
+            let call = calls.next(&pair.model.table);
+            let mut damaged = Pair { ours: pair.ours.clone(), model: pair.model.clone(), seen };
+            damage(&mut random, &mut damaged.ours.table);
+            damaged.model.table = damaged.ours.table;
+            damaged.call(&calls, &call);
+            seen = damaged.seen;
+            pair.call(&calls, &call);
+        }
+    }
+    println!("damaged tables: {seen:?}");
+    let within: u64 = seen.iter().filter(|(name, _)| **name != "1").map(|(_, n)| n).sum();
+    assert!(seen["1"] > 1000 && within > 1000);
+}
