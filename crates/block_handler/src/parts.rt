@@ -17,7 +17,8 @@ fn shown(body: Source, head: Source, chunk: Source, sent: Source) -> Shows
     }
 }
 
-fn shown_by(answer: Answer) -> Shows
+// Where the bytes stand that an answer shows.
+pub fn shown_by(answer: Answer) -> Shows
     ensures { λ r. ⌜ r ≡ shownBy answer ⌝ }
 {
     let no = Source::Nothing;
