@@ -16,7 +16,6 @@ pub use parts::body;
 pub use parts::sent_bytes;
 pub use parts::served_chunk;
 pub use parts::served_head;
-pub use parts::shown_by;
 
 // What the checks before a step come to.
 pub enum Verdict {

@@ -17,8 +17,7 @@ fn shown(body: Source, head: Source, chunk: Source, sent: Source) -> Shows
     }
 }
 
-// Where the bytes stand that an answer shows.
-pub fn shown_by(answer: Answer) -> Shows
+fn shown_by(answer: Answer) -> Shows
     ensures { λ r. ⌜ r ≡ shownBy answer ⌝ }
 {
     let no = Source::Nothing;

@@ -1,9 +1,8 @@
 -- An answer in numbers, as it crosses to C: document 01's number and values for each case.
 use Prim.Native.Nat.{ℕ}
-use mathlib.Core.Bool.{true, false, cond}
+use mathlib.Core.Bool.{true, false}
 use mathlib.Core.List.{List, [], _∷_, _++_}
 use lib.ListN.{length, take}
-use lib.Dec.{eqb}
 use Rattle.block_value.specs.declared.BlockValue.{BlockValue}
 use Rattle.block_value.specs.declared.Reading.{Reading}
 use Rattle.block_value.specs.declared.Reading.the-variants.{Value, Unreadable}
@@ -82,24 +81,3 @@ replying kind number code block1 block2 part head =
 abbrev pub replyOf : Answer → Reply
 replyOf a =
     replying (kindNumber (said a .kind)) (said a .number) (said a .code) (blockOf (said a .block1)) (blockOf (said a .block2)) (partIn a) (headIn a)
-
--- ---- Back from the numbers
-
-abbrev pub valueOf : Block → BlockValue
-valueOf b = record { num = b .num; more = b .more; «size_exponent» = b .exponent }
-
-abbrev pub maybeOf : Block → MaybeBlock
-maybeOf b = cond (b .given) (Given (valueOf b)) Absent
-
--- The answer that numbers say; a kind that there is not is a refusal.
-unfoldable pub answerOf : Reply → Answer
-answerOf r =
-    cond (eqb (r .kind) 1) (Continue (valueOf (r .block1)))
-    (cond (eqb (r .kind) 2) (TooLarge (valueOf (r .block1)))
-    (cond (eqb (r .kind) 3) (Handed (valueOf (r .block1)) (r .part))
-    (cond (eqb (r .kind) 4) Pass
-    (cond (eqb (r .kind) 5) (Served (maybeOf (r .block1)) (valueOf (r .block2)) (r .head) (r .part))
-    (cond (eqb (r .kind) 6) Plain
-    (cond (eqb (r .kind) 7) (Whole (valueOf (r .block2)) (r .part))
-    (cond (eqb (r .kind) 8) (First (valueOf (r .block2)) (r .part))
-    (Refused (r .refusal)))))))))

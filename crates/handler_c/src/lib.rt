@@ -8,9 +8,8 @@ ghost use mathlib.Core.Path.{_≡_};
 ghost use Rattle.block_value.specs.Value.{readOf, written};
 ghost use Rattle.block_table.specs.Table.{freshTable};
 ghost use Rattle.block_handler.specs.Contract.{world, requestCall, responseCall};
-ghost use Rattle.block_handler.specs.Parts.{shownBy};
-ghost use Rattle.handler_c.specs.Reply.{answerOf, blockRead, inTwoBytes};
-ghost use Rattle.handler_c.specs.Found.{foundIn};
+ghost use Rattle.handler_c.specs.Reply.{blockRead, inTwoBytes};
+ghost use Rattle.handler_c.specs.Found.{foundIn, bodyIn, servedHeadIn, chunkIn, sentIn};
 ghost use Rattle.handler_c.specs.Contract.{Replies};
 
 mod calls;
@@ -111,40 +110,32 @@ pub extern "C" fn block_handler_write(num: u32, more: bool, exponent: u8) -> Opt
 // The body that the application sees, of a payload and an upload memory of these lengths.
 #[no_mangle]
 pub extern "C" fn block_handler_body(reply: Reply, payload: usize, upload: usize) -> Found
-    ensures { λ r. ⌜ r ≡ foundIn (shownBy (answerOf reply) .body) payload upload ⌝ }
+    ensures { λ r. ⌜ r ≡ foundIn (bodyIn reply) payload upload ⌝ }
 {
-    let by = block_handler::shown_by(numbers::answer_of(reply));
-    let source = by.body;
-    numbers::found_in(source, payload, upload)
+    numbers::found_in(numbers::body_in(reply), payload, upload)
 }
 
 // The head that a served chunk goes out under, of a response memory of this length.
 #[no_mangle]
 pub extern "C" fn block_handler_served_head(reply: Reply, response: usize) -> Found
-    ensures { λ r. ⌜ r ≡ foundIn (shownBy (answerOf reply) .head) response response ⌝ }
+    ensures { λ r. ⌜ r ≡ foundIn (servedHeadIn reply) response response ⌝ }
 {
-    let by = block_handler::shown_by(numbers::answer_of(reply));
-    let source = by.head;
-    numbers::found_in(source, response, response)
+    numbers::found_in(numbers::head_in(reply), response, response)
 }
 
 #[no_mangle]
 pub extern "C" fn block_handler_served_chunk(reply: Reply, response: usize) -> Found
-    ensures { λ r. ⌜ r ≡ foundIn (shownBy (answerOf reply) .chunk) response response ⌝ }
+    ensures { λ r. ⌜ r ≡ foundIn (chunkIn reply) response response ⌝ }
 {
-    let by = block_handler::shown_by(numbers::answer_of(reply));
-    let source = by.chunk;
-    numbers::found_in(source, response, response)
+    numbers::found_in(numbers::chunk_in(reply), response, response)
 }
 
 // What a response sends of its own payload, which has this length.
 #[no_mangle]
 pub extern "C" fn block_handler_sent(reply: Reply, payload: usize) -> Found
-    ensures { λ r. ⌜ r ≡ foundIn (shownBy (answerOf reply) .sent) payload payload ⌝ }
+    ensures { λ r. ⌜ r ≡ foundIn (sentIn reply) payload payload ⌝ }
 {
-    let by = block_handler::shown_by(numbers::answer_of(reply));
-    let source = by.sent;
-    numbers::found_in(source, payload, payload)
+    numbers::found_in(numbers::sent_in(reply), payload, payload)
 }
 
 // A request, before the application sees it: intercept_request in the Rust.

@@ -1,4 +1,4 @@
-// Answers as numbers, and back.
+// Answers as numbers, and what the numbers show.
 use crate::Block;
 use crate::Found;
 use crate::Reply;
@@ -8,8 +8,8 @@ use block_state::Part;
 use block_value::BlockValue;
 use negotiation::MaybeBlock;
 ghost use mathlib.Core.Path.{_≡_};
-ghost use Rattle.handler_c.specs.Reply.{noBlock, givenBlock, blockOf, valueOf, maybeOf, nowhere, replying, replyOf, answerOf};
-ghost use Rattle.handler_c.specs.Found.{found, foundIn};
+ghost use Rattle.handler_c.specs.Reply.{noBlock, givenBlock, blockOf, nowhere, replying, replyOf};
+ghost use Rattle.handler_c.specs.Found.{found, foundIn, sourceIf, bodyIn, servedHeadIn, chunkIn, sentIn};
 
 pub fn no_block() -> Block
     ensures { λ r. ⌜ r ≡ noBlock ⌝ }
@@ -40,25 +40,6 @@ fn block_of(block: MaybeBlock) -> Block
         MaybeBlock::Absent => no_block(),
         MaybeBlock::Given(value) => given(value),
     }
-}
-
-fn value_of(block: Block) -> BlockValue
-    ensures { λ r. ⌜ r ≡ valueOf block ⌝ }
-{
-    BlockValue {
-        num: block.num,
-        more: block.more,
-        size_exponent: block.exponent,
-    }
-}
-
-fn maybe_of(block: Block) -> MaybeBlock
-    ensures { λ r. ⌜ r ≡ maybeOf block ⌝ }
-{
-    if block.given {
-        return MaybeBlock::Given(value_of(block));
-    }
-    MaybeBlock::Absent
 }
 
 fn none() -> Part
@@ -124,27 +105,47 @@ pub fn reply_of(answer: Answer) -> Reply
     }
 }
 
-// The answer that the numbers say; a kind that there is not is a refusal.
-pub fn answer_of(reply: Reply) -> Answer
-    ensures { λ r. ⌜ r ≡ answerOf reply ⌝ }
+fn source(shown: bool, part: Part) -> Source
+    ensures { λ r. ⌜ r ≡ sourceIf shown part ⌝ }
 {
-    let block1 = reply.block1;
-    let block2 = reply.block2;
-    let part = reply.part;
-    match reply.kind {
-        1 => Answer::Continue(value_of(block1)),
-        2 => Answer::TooLarge(value_of(block1)),
-        3 => Answer::Handed(value_of(block1), part),
-        4 => Answer::Pass,
-        5 => {
-            let head = reply.head;
-            Answer::Served(maybe_of(block1), value_of(block2), head, part)
-        }
-        6 => Answer::Plain,
-        7 => Answer::Whole(value_of(block2), part),
-        8 => Answer::First(value_of(block2), part),
-        _ => Answer::Refused(reply.refusal),
+    if shown {
+        return Source::Within(part);
     }
+    Source::Nothing
+}
+
+pub fn body_in(reply: Reply) -> Source
+    ensures { λ r. ⌜ r ≡ bodyIn reply ⌝ }
+{
+    if reply.kind == 4 {
+        return Source::Message;
+    }
+    let part = reply.part;
+    source(reply.kind == 3, part)
+}
+
+pub fn chunk_in(reply: Reply) -> Source
+    ensures { λ r. ⌜ r ≡ chunkIn reply ⌝ }
+{
+    let part = reply.part;
+    source(reply.kind == 5, part)
+}
+
+pub fn head_in(reply: Reply) -> Source
+    ensures { λ r. ⌜ r ≡ servedHeadIn reply ⌝ }
+{
+    let head = reply.head;
+    source(reply.kind == 5, head)
+}
+
+pub fn sent_in(reply: Reply) -> Source
+    ensures { λ r. ⌜ r ≡ sentIn reply ⌝ }
+{
+    if reply.kind == 6 {
+        return Source::Message;
+    }
+    let part = reply.part;
+    source((reply.kind == 7) | (reply.kind == 8), part)
 }
 
 fn found(place: u8, from: usize, to: usize) -> Found
