@@ -42,6 +42,12 @@ fn size(x: u8) -> usize
     x as usize
 }
 
+fn word(x: u8) -> u32
+    ensures { λ r. ⌜ (r ≡ x) × (r < 2 ^ 8) ⌝ }
+{
+    x as u32
+}
+
 fn small(x: usize) -> u8
     requires { ⌜ x ≤ 64 ⌝ }
     ensures { λ r. ⌜ r ≡ x ⌝ }
@@ -81,7 +87,7 @@ fn same_bytes(a: &[u8], b: &[u8]) -> bool
 }
 
 // The key is the first `len` of the stored bytes, all of them where `len` is off the limits.
-fn same_key(key: &[u8], bytes: [u8; 64], len: usize) -> bool
+pub fn same_key(key: &[u8], bytes: [u8; 64], len: usize) -> bool
     ensures { λ r. ⌜ r ≡ same (now (key .entry)) (take len bytes) ⌝ }
 {
     if len <= 64 {
@@ -99,14 +105,14 @@ fn same_stored(a: [u8; 64], a_len: usize, b: [u8; 64], b_len: usize) -> bool
     same_key(&a, b, b_len)
 }
 
-// Summed, since such a loop is vectorised.
+// Summed in 32 bits, since such a loop is vectorised.
 fn zero_bytes(bytes: [u8; 64]) -> bool
     ensures { λ r. ⌜ r ≡ all (λ b. eqb b 0) bytes ⌝ }
 {
     let mut sum = 0;
     let mut i = 0;
     while i < 64 {
-        sum += size(bytes[i]);
+        sum += word(bytes[i]);
         i += 1;
     }
     sum == 0
@@ -277,7 +283,7 @@ fn age(touched: u64, time: u64) -> u64
     if touched <= time { time - touched } else { 0 }
 }
 
-fn is_live(used: bool, touched: u64, lifetime: u64, time: u64) -> bool
+pub fn is_live(used: bool, touched: u64, lifetime: u64, time: u64) -> bool
     ensures { λ r. ⌜ r ≡ (used && ltb (time - touched) lifetime) ⌝ }
 {
     used & (age(touched, time) < lifetime)
@@ -305,7 +311,7 @@ fn empty_state() -> BlockState
     }
 }
 
-fn free_entry() -> Entry
+pub fn free_entry() -> Entry
     ensures { λ r. ⌜ r ≡ free ⌝ }
 {
     let state = empty_state();
