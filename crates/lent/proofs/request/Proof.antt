@@ -140,7 +140,7 @@ module _ {M : Type 1} (𝓤 : URA M) (H : Heap 𝓤) (A : Atoms 𝓤) (W : Given
     walk : ent 𝓤 (onEntry 𝓤 H A f.signature (κ, (κ-piece, (κ-a, tt))) (q, (q-piece, (q-a, tt))) a at) (WpFn 𝓤 H C Λ code.function (vptr b o ∷ mach-config config ∷ vint w64 home ∷ vint w64 away ∷ vint w64 time ∷ sliceVal (piece .ptr) (length (piece .now)) ∷ vint w64 bare ∷ vbool given1 ∷ sliceVal (block1 .ptr) (length (block1 .now)) ∷ vbool given2 ∷ sliceVal (block2 .ptr) (length (block2 .now)) ∷ sliceVal (payload .ptr) (length (payload .now)) ∷ []) Post)
     walk =
         qed W ((‵ (flft κ q) ⊛ Toks) ∷ ‵ (owns (MutRef (named 0) κ T.the-row ∷ K.the-row ∷ usize ∷ usize ∷ u64 ∷ MutSlice (named 1) κ-piece u8 ∷ usize ∷ bool ∷ ShrSlice (named 2) κ-a u8 ∷ bool ∷ ShrSlice (named 2) κ-a u8 ∷ ShrSlice (named 2) κ-a u8 ∷ []) a at) ∷ []) ∵
-        split ! $ move ! (2 ∷ []) $ fsplit ! $ fsplit3 ! $ drop ! $ move ! (2 ∷ []) $ fsplit ! $ drop ! $ fsplit ! $ drop ! $ fsplit ! $ drop ! $ fsplit ! $ drop ! $ fsplit ! $ move ! (1 ∷ []) $ fsplit ! $ drop ! $ fsplit ! $ drop ! $ fsplit ! $ move ! (1 ∷ []) $ fsplit ! $ drop ! $ fsplit ! $ move ! (1 ∷ []) $ fsplit ! $ move ! (1 ∷ []) $ drop ! $ move ! (4 ∷ 5 ∷ 6 ∷ 3 ∷ 2 ∷ 1 ∷ 0 ∷ 7 ∷ []) $ 
+        split ! $ move ! (2 ∷ []) $ fsplit ! $ fsplit3 ! $ drop ! $ move ! (2 ∷ []) $ fsplit ! $ drop ! $ fsplit ! $ drop ! $ fsplit ! $ drop ! $ fsplit ! $ drop ! $ fsplit ! $ move ! (1 ∷ []) $ fsplit ! $ drop ! $ fsplit ! $ drop ! $ fsplit ! $ move ! (1 ∷ []) $ fsplit ! $ drop ! $ fsplit ! $ move ! (1 ∷ []) $ fsplit ! $ move ! (1 ∷ []) $ drop ! $ move ! (4 ∷ 5 ∷ 6 ∷ 3 ∷ 2 ∷ 1 ∷ 0 ∷ 7 ∷ []) $
         enter ! C Λ code.function (vptr b o ∷ mach-config config ∷ vint w64 home ∷ vint w64 away ∷ vint w64 time ∷ sliceVal (piece .ptr) (length (piece .now)) ∷ vint w64 bare ∷ vbool given1 ∷ sliceVal (block1 .ptr) (length (block1 .now)) ∷ vbool given2 ∷ sliceVal (block2 .ptr) (length (block2 .now)) ∷ sliceVal (payload .ptr) (length (payload .now)) ∷ []) _ $
         alloc1 ! (λ l0. alloc1 ! (λ l1. alloc1 ! (λ l2. alloc1 ! (λ l3. alloc1 ! (λ l4. alloc1 ! (λ l5. alloc1 ! (λ l6. alloc1 ! (λ l7. alloc1 ! (λ l8. alloc1 ! (λ l9. alloc1 ! (λ l10. alloc1 ! (λ l11. alloc1 ! (λ l12. alloc1 ! (λ l13. alloc1 ! (λ l14. alloc1 ! (λ l15. alloc1 ! (λ l16. alloc0 ! $ params1 ! $
         pass1 ! (init ! 30 refl (tt, tt)) $ pass1 ! (init ! 28 refl (LL.lawful K.the-type K′.the-laws 𝓤 H A W .typed config _ is-config .0)) $ pass1 ! (init ! 26 refl (tt, record { fits = fits-home })) $ pass1 ! (init ! 24 refl (tt, record { fits = fits-away })) $ pass1 ! (init ! 22 refl (tt, record { fits = fits-time })) $ pass1 ! (init ! 20 refl (tt, (tt, (record { fits = room-piece .0 }, tt)))) $ pass1 ! (init ! 18 refl (tt, record { fits = fits-bare })) $ pass1 ! (init ! 16 refl (tt, tt)) $ pass1 ! (init ! 14 refl (tt, (tt, (record { fits = room-block1 .0 }, tt)))) $ pass1 ! (init ! 12 refl (tt, tt)) $ pass1 ! (init ! 10 refl (tt, (tt, (record { fits = room-block2 .0 }, tt)))) $ pass1 ! (init ! 8 refl (tt, (tt, (record { fits = room-payload .0 }, tt)))) $ pass0 ! $
