@@ -10,6 +10,7 @@ ghost use mathlib.Core.Bool.{true, false, _&&_, cond};
 ghost use Prim.Native.Nat.{_-_, _≤_, _<_, _^_};
 ghost use lib.ListN.{length, take, drop, set};
 ghost use lib.Dec.{eqb, ltb};
+ghost use Rattle.digest.specs.Digest.{digestOf, folded};
 ghost use Rattle.block_state.specs.State.{nothing};
 ghost use Rattle.block_table.specs.Lists.{find, all};
 ghost use Rattle.block_table.specs.Keys.{same, keyOk, stored, isNoKey};
@@ -262,19 +263,6 @@ fn all_distinct(entries: [Entry; 16]) -> bool
     true
 }
 
-pub fn valid(config: Config, table: Table) -> bool
-    ensures { λ r. ⌜ r ≡ tableOk config table ⌝ }
-{
-    let entries = table.entries;
-    if !each_ok(config, table.clock, entries) {
-        return false;
-    }
-    if digest::apart(tags(entries)) {
-        return true;
-    }
-    all_distinct(entries)
-}
-
 // ---- Expiry
 
 fn age(touched: u64, time: u64) -> u64
@@ -374,7 +362,7 @@ fn find_free(entries: [Entry; 16], lifetime: u64, time: u64) -> usize
 }
 
 // The place of the key in the row that a sweep would leave, found without building that row; 16 if there is none.
-pub fn place_of(entries: [Entry; 16], lifetime: u64, time: u64, key: &[u8]) -> usize
+fn place_of(entries: [Entry; 16], lifetime: u64, time: u64, key: &[u8]) -> usize
     ensures { λ r. ⌜ r ≡ place (now (key .entry)) (sweep lifetime time entries) ⌝ }
 {
     let i = find_key(entries, lifetime, time, key);
@@ -382,6 +370,82 @@ pub fn place_of(entries: [Entry; 16], lifetime: u64, time: u64, key: &[u8]) -> u
         return i;
     }
     find_free(entries, lifetime, time)
+}
+
+// The tag of an entry in use for this key.
+fn key_tag(key: &[u8]) -> u32
+    requires { ⌜ length (now key) ≤ 64 ⌝ }
+    ensures { λ r. ⌜ r ≡ folded (digestOf (now (key .entry))) ⌝ }
+{
+    let bytes = padded(key);
+    digest::fold(digest::digest(bytes, key.len()))
+}
+
+// As find_key, in a row whose tags are known: only an entry with the key's own tag can hold it.
+fn find_tagged(
+    config: Config,
+    clock: u64,
+    entries: [Entry; 16],
+    row: [u32; 16],
+    own: u32,
+    time: u64,
+    key: &[u8],
+) -> usize
+    requires { ⌜ (all (entryOk config clock) entries ≡ true) × (row ≡ tagsFrom 0 entries) × (own ≡ folded (digestOf (now key))) ⌝ }
+    ensures { λ r. ⌜ r ≡ find (holdsLive (config .lifetime) time (now (key .entry))) entries ⌝ }
+{
+    let mut i = 0;
+    while i < 16 {
+        let tagged = row[i] == own;
+        if tagged & is_live(entries[i].used, entries[i].touched, config.lifetime, time) {
+            let e = entries[i];
+            let stored = e.key;
+            let bytes = stored.bytes;
+            if same_key(key, bytes, size(stored.len)) {
+                return i;
+            }
+        }
+        i += 1;
+    }
+    16
+}
+
+fn place_tagged(
+    config: Config,
+    clock: u64,
+    entries: [Entry; 16],
+    row: [u32; 16],
+    time: u64,
+    key: &[u8],
+) -> usize
+    requires { ⌜ (all (entryOk config clock) entries ≡ true) × (row ≡ tagsFrom 0 entries) × (length (now key) ≤ 64) ⌝ }
+    ensures { λ r. ⌜ r ≡ place (now (key .entry)) (sweep (config .lifetime) time entries) ⌝ }
+{
+    let i = find_tagged(config, clock, entries, row, key_tag(key), time, key);
+    if i < 16 {
+        return i;
+    }
+    find_free(entries, config.lifetime, time)
+}
+
+// The place of the key in the row that a sweep would leave, where the table is within its limits; else 17.
+pub fn place_in(config: Config, table: Table, time: u64, key: &[u8]) -> usize
+    requires { ⌜ length (now key) ≤ 64 ⌝ }
+    ensures { λ r. ⌜ r ≡ cond (tableOk config table) (place (now (key .entry)) (sweep (config .lifetime) time (table .entries))) 17 ⌝ }
+{
+    let entries = table.entries;
+    let clock = table.clock;
+    if !each_ok(config, clock, entries) {
+        return 17;
+    }
+    let row = tags(entries);
+    if digest::apart(row) {
+        return place_tagged(config, clock, entries, row, time, key);
+    }
+    if all_distinct(entries) {
+        return place_of(entries, config.lifetime, time, key);
+    }
+    17
 }
 
 // The entry that a call starts from, of the one at the key's place in a swept row.
