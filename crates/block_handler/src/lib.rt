@@ -2,6 +2,7 @@
 use block_state::Answer;
 use block_state::Config;
 use block_state::Part;
+use block_table::Entry;
 use block_table::Table;
 ghost use mathlib.Core.Path.{_≡_};
 ghost use Rattle.block_state.specs.Answers.{said, refusalCode};
@@ -12,6 +13,8 @@ mod parts;
 
 pub use calls::intercept_request;
 pub use calls::intercept_response;
+pub use calls::request_change;
+pub use calls::response_change;
 pub use parts::body;
 pub use parts::sent_bytes;
 pub use parts::served_chunk;
@@ -37,6 +40,15 @@ pub struct Shows {
     pub head: Source,
     pub chunk: Source,
     pub sent: Source,
+}
+
+// What a call changes of the table: the entries that are not live may have to be freed, the clock is set, and one entry is put in its place.
+pub struct Change {
+    pub freed: bool,
+    pub clock: u64,
+    pub at: usize,
+    pub entry: Entry,
+    pub answer: Answer,
 }
 
 // What a call leaves of the table, and what it answers.

@@ -14,7 +14,7 @@ ghost use Rattle.digest.specs.Digest.{digestOf, folded};
 ghost use Rattle.block_state.specs.State.{nothing};
 ghost use Rattle.block_table.specs.Lists.{find, all};
 ghost use Rattle.block_table.specs.Keys.{same, keyOk, stored, isNoKey};
-ghost use Rattle.block_table.specs.Table.{inUse, free, entryOk, clash, distinct, tableOk, sweep, place, freshTable};
+ghost use Rattle.block_table.specs.Table.{inUse, free, entryOk, clash, distinct, tableOk, live, swept, sweep, at, place, freshTable};
 ghost use Rattle.block_table.specs.Quick.{tagOf, tagsFrom, alone, holdsLive, notLive};
 
 #[repr(C)]
@@ -179,7 +179,7 @@ fn entry_ok(config: Config, clock: u64, e: Entry) -> bool
 }
 
 fn each_ok(config: Config, clock: u64, entries: [Entry; 16]) -> bool
-    ensures { λ r. ⌜ r ≡ all (entryOk config clock) entries ⌝ }
+    ensures { λ r. ⌜ (r ≡ all (entryOk config clock) entries) × (length entries ≡ 16) ⌝ }
 {
     let mut i = 0;
     while i < 16 {
@@ -314,6 +314,29 @@ pub fn free_entry() -> Entry
     }
 }
 
+pub fn swept_entry(e: Entry, lifetime: u64, time: u64) -> Entry
+    ensures { λ r. ⌜ r ≡ swept lifetime time e ⌝ }
+{
+    if is_live(e.used, e.touched, lifetime, time) {
+        return e;
+    }
+    free_entry()
+}
+
+// A sweep would free nothing.
+pub fn all_live(entries: [Entry; 16], lifetime: u64, time: u64) -> bool
+    ensures { λ r. ⌜ r ≡ all (live lifetime time) entries ⌝ }
+{
+    let mut i = 0;
+    while i < 16 {
+        if !is_live(entries[i].used, entries[i].touched, lifetime, time) {
+            return false;
+        }
+        i += 1;
+    }
+    true
+}
+
 pub fn sweep_row(entries: [Entry; 16], lifetime: u64, time: u64) -> [Entry; 16]
     ensures { λ r. ⌜ (r ≡ sweep lifetime time entries) × (length r ≡ 16) ⌝ }
 {
@@ -431,7 +454,7 @@ fn place_tagged(
 // The place of the key in the row that a sweep would leave, where the table is within its limits; else 17.
 pub fn place_in(config: Config, table: Table, time: u64, key: &[u8]) -> usize
     requires { ⌜ length (now key) ≤ 64 ⌝ }
-    ensures { λ r. ⌜ r ≡ cond (tableOk config table) (place (now (key .entry)) (sweep (config .lifetime) time (table .entries))) 17 ⌝ }
+    ensures { λ r. ⌜ (r ≡ cond (tableOk config table) (place (now (key .entry)) (sweep (config .lifetime) time (table .entries))) 17) × (length (table .entries) ≡ 16) ⌝ }
 {
     let entries = table.entries;
     let clock = table.clock;
@@ -466,21 +489,23 @@ pub fn start_from(e: Entry, key: &[u8]) -> Entry
     }
 }
 
-// The row with this entry in use at i, and the clock recorded. An i of 16 or more changes no entry.
-pub fn put_entry(entries: [Entry; 16], time: u64, i: usize, key: Key, state: BlockState) -> Table
-    ensures { λ r. ⌜ r ≡ record { clock = time; entries = set entries i (inUse key time state) } ⌝ }
+pub fn entry_at(entries: [Entry; 16], i: usize) -> Entry
+    requires { ⌜ i < 16 ⌝ }
+    ensures { λ r. ⌜ (r ≡ at entries i) × (length entries ≡ 16) ⌝ }
+{
+    entries[i]
+}
+
+// The row with this entry at i, and the clock recorded. An i of 16 or more changes no entry.
+pub fn put_entry(entries: [Entry; 16], clock: u64, i: usize, e: Entry) -> Table
+    ensures { λ r. ⌜ r ≡ record { clock = clock; entries = set entries i e } ⌝ }
 {
     let mut row = entries;
     if i < 16 {
-        row[i] = Entry {
-            key: key,
-            used: true,
-            touched: time,
-            state: state,
-        };
+        row[i] = e;
     }
     Table {
-        clock: time,
+        clock,
         entries: row,
     }
 }

@@ -34,8 +34,8 @@ use Rattle.lent.specs.declared.Seen.{Seen}
 use Rattle.lent.specs.Row.{seenNext}
 use Rattle.lent.proofs.Seen as Q
 use Rattle.lent.proofs.Seen.Laws as Q′
-use Rattle.lent.proofs.swept_entry as s
-use Rattle.lent.proofs.swept_entry.Symbol.{name as #swept}
+use Rattle.block_table.proofs.swept_entry as s
+use Rattle.block_table.proofs.swept_entry.Symbol.{name as #swept}
 use Rattle.lent.proofs.see as g
 use Rattle.lent.proofs.see.Symbol.{name as #see}
 

@@ -5,7 +5,7 @@ use block_state::Config;
 use block_table::Entry;
 ghost use mathlib.Core.Path.{_≡_};
 ghost use Rattle.block_state.specs.Contract.{asking};
-ghost use Rattle.block_table.specs.Table.{holds, swept, sweep, place};
+ghost use Rattle.block_table.specs.Table.{holds, sweep, place};
 ghost use Rattle.lent.specs.Lent.{lent, roomFor, requestLent};
 ghost use Rattle.lent.specs.Row.{firstOf, seenNext};
 
@@ -131,16 +131,6 @@ pub fn request<'a>(
     out.answer
 }
 
-// An entry as a sweep leaves it.
-fn swept_entry(e: Entry, lifetime: u64, time: u64) -> Entry
-    ensures { λ r. ⌜ r ≡ swept lifetime time e ⌝ }
-{
-    if block_table::is_live(e.used, e.touched, lifetime, time) {
-        return e;
-    }
-    block_table::free_entry()
-}
-
 fn size(x: u8) -> usize
     ensures { λ r. ⌜ r ≡ x ⌝ }
 {
@@ -202,7 +192,7 @@ pub fn find_and_free(entries: &mut [Entry], lifetime: u64, time: u64, key: &[u8]
     };
     let mut i = 0;
     while i < entries.len() {
-        let left = swept_entry(entries[i], lifetime, time);
+        let left = block_table::swept_entry(entries[i], lifetime, time);
         entries[i] = left;
         let next = i + 1;
         seen = see(seen, i, next, left, key);

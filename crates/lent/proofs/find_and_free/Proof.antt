@@ -57,9 +57,9 @@ use Rattle.lent.proofs.Seen as Q
 use Rattle.lent.proofs.Seen.Laws as Q′
 use Rattle.lent.proofs.Sweeps.{one-more, upto, upto-length, upto-next, upto-all, upto-at, map-length, seenOf, seen-next, seen-all, bytes-fit}
 use Rattle.lent.proofs.Turns.{Swept, See, Key, sight, sweeps, sees}
-use Rattle.lent.proofs.swept_entry.Symbol as swept-def
-use Rattle.lent.proofs.swept_entry.Symbol.{name as #swept}
-use Rattle.lent.proofs.swept_entry.Met as swept-thm
+use Rattle.block_table.proofs.swept_entry.Symbol as swept-def
+use Rattle.block_table.proofs.swept_entry.Symbol.{name as #swept}
+use Rattle.block_table.proofs.swept_entry.Met as swept-thm
 use Rattle.lent.proofs.see.Symbol as see-def
 use Rattle.lent.proofs.see.Symbol.{name as #see}
 use Rattle.lent.proofs.see.Met as see-thm
@@ -264,5 +264,5 @@ find-and-free-spec 𝓤 H 𝓜 𝓖 𝓡 =
     entered 𝓤 H (tripleOf 𝓤 H (𝓖 .A) f.signature (f.spec 𝓤 H (𝓖 .A) (𝓜 .mem) (𝓡 .run)))
     (tables 𝓤 H 𝓜 𝓡 code.env .C) (tables 𝓤 H 𝓜 𝓡 code.env .Λ) #self code.function (code.unfolded 𝓤 H 𝓜 𝓡)
     (meets 𝓤 H (𝓖 .A) (givenOf 𝓤 H 𝓜 𝓖) (𝓜 .mem) (𝓡 .run) (tablesOf 𝓤 H 𝓜 (tables 𝓤 H 𝓜 𝓡 code.env))
-    (cited 𝓤 H (Swept 𝓤 H (𝓖 .A) (𝓜 .mem) (𝓡 .run)) 𝓜 𝓡 code.env #swept swept-def.routine code.calls-lent·swept-entry (swept-thm.met 𝓤 H 𝓜 𝓖 𝓡))
+    (cited 𝓤 H (Swept 𝓤 H (𝓖 .A) (𝓜 .mem) (𝓡 .run)) 𝓜 𝓡 code.env #swept swept-def.routine code.calls-block-table·swept-entry (swept-thm.met 𝓤 H 𝓜 𝓖 𝓡))
     (cited 𝓤 H (See 𝓤 H (𝓖 .A) (𝓜 .mem) (𝓡 .run)) 𝓜 𝓡 code.env #see see-def.routine code.calls-lent·see (see-thm.met 𝓤 H 𝓜 𝓖 𝓡)))

@@ -1,9 +1,9 @@
 use mathlib.Core.Path.{sym, _∙_}
 use Rattle.block_table.proofs.Turns.{live-as}
 use Rattle.block_table.proofs.Entries.{swept-live, swept-dead}
 use borrow.Author.Needs.{needs}
-use Rattle.lent.proofs.swept_entry.Statement.{statement}
-use Rattle.lent.proofs.swept_entry.Tie as tie
+use Rattle.block_table.proofs.swept_entry.Statement.{statement}
+use Rattle.block_table.proofs.swept_entry.Tie as tie
 
 is-live-requires : tie.Need-is-live-requires
 is-live-requires c κs = search needs
