@@ -505,7 +505,7 @@ pub fn put_entry(entries: [Entry; 16], clock: u64, i: usize, e: Entry) -> Table
         row[i] = e;
     }
     Table {
-        clock,
+        clock: clock,
         entries: row,
     }
 }
