@@ -1,7 +1,7 @@
 -- The verdict by its cases, and what a place tells. Assumes nothing.
 use Prim.Native.Nat.{ℕ, _+_, _*_, _≤_, _<_}
-use mathlib.Core.Path.{_≡_, sym}
-use mathlib.Core.Bool.{true, false}
+use mathlib.Core.Path.{_≡_, refl, sym}
+use mathlib.Core.Bool.{Bool, true, false, cond}
 use mathlib.Core.List.{List}
 use native.Mathlib.Omega.{arith}
 use lib.ListN.{length}
@@ -34,6 +34,26 @@ config-fits c h =
       upload = leb-true (c .upload) 65536 (search ands);
       response = leb-true (c .response) 65536 (search ands);
     }
+
+pub key-short : (k : List ℕ) → keyOk k ≡ true → length k ≤ 64
+unfolding keyOk
+key-short k h = leb-true (length k) 64 (search ands)
+
+-- 17 tells that the table is off its limits, since a place is 16 at most
+module _ (b : Bool) (p r : ℕ) (e : r ≡ cond b p 17) where
+  pub table-off : p ≤ 16 → r ≡ 17 → b ≡ false
+  table-off most h = go b e
+    where
+      go : (z : Bool) → r ≡ cond z p 17 → z ≡ false
+      go true f = absurd (omega arith)
+      go false f = refl
+
+  pub table-on : (r ≡ 17 → ⊥) → (b ≡ true) × (r ≡ p)
+  table-on n = go b e
+    where
+      go : (z : Bool) → r ≡ cond z p 17 → (z ≡ true) × (r ≡ p)
+      go true f = (refl, f)
+      go false f = absurd (n f)
 
 module _ (c : Config) (t : Table) (u v time : ℕ) (key : List ℕ) (bare payload head : ℕ) where
   abbrev verdict : Verdict

@@ -4,7 +4,7 @@ use mathlib.Core.Path.{_≡_, refl, sym, ap, _∙_}
 use mathlib.Core.Bool.{Bool, true, false, cond, not, _&&_}
 use mathlib.Core.List.{List, [], _∷_, _++_}
 use native.Mathlib.Omega.{arith}
-use lib.ListN.{length, getD, take, drop}
+use lib.ListN.{length, take, drop, set}
 use lib.Dec.{leb, ltb}
 use Rattle.pieces.specs.Memory.{part, pieceOf, putPiece}
 use Rattle.pieces.proofs.Memory.{patch-lent, length-piece}
@@ -19,8 +19,11 @@ use Rattle.block_state.proofs.Tests.{by-cases}
 use Rattle.block_table.specs.declared.Entry.{Entry}
 use Rattle.block_table.specs.declared.Table.{Table}
 use Rattle.block_table.specs.Keys.{stored}
-use Rattle.block_table.specs.Table.{inUse, free, place, at, opened}
-use Rattle.block_table.proofs.Turns.{nil}
+use Rattle.block_table.specs.declared.Key.{Key}
+use Rattle.block_table.specs.Lists.{all}
+use Rattle.block_table.specs.Table.{inUse, live, swept, sweep, place, at, opened}
+use Rattle.block_table.proofs.Turns.{sweep-kept}
+use Rattle.block_table.proofs.Entries.{at-sweep}
 use Rattle.block_handler.specs.declared.Verdict.{Verdict}
 use Rattle.block_handler.specs.declared.Verdict.the-variants as verdict
 use Rattle.block_handler.specs.Call.{World, Call, Done, done, whatOk, withinLimits, tableAfter, requestLeft, responseLeft, callAt, rowOf, call}
@@ -74,16 +77,26 @@ refusal w t n a e f = λ k. done (world (e k) (w .upload) (w .response)) (f k)
 
 -- ---- the entry that a call starts from
 
--- below the length of a row it does not matter what stands past its end
-pub getD-any : (l : List Entry) (i : ℕ) (d e : Entry) → i < length l → getD l i d ≡ getD l i e
-getD-any [] i d e h = absurd (omega arith)
-getD-any (x ∷ l) zero d e h = refl
-getD-any (x ∷ l) (suc i) d e h = getD-any l i d e (omega arith)
-
-pub opened-at : (key : List ℕ) (row : List Entry) (i : ℕ) → i ≡ place key row → i < length row
-    → cond (getD row i nil .used) (getD row i nil) (inUse (stored key) 0 nothing) ≡ opened key row
+pub opened-swept : (key : List ℕ) (l : List Entry) (lifetime time i : ℕ) → i ≡ place key (sweep lifetime time l)
+    → cond (swept lifetime time (at l i) .used) (swept lifetime time (at l i)) (inUse (stored key) 0 nothing) ≡ opened key (sweep lifetime time l)
 unfolding opened
-opened-at key row i p h = rw (getD-any row i nil free h, p)
+opened-swept key l lifetime time i p = rw (← at-sweep lifetime time l i, p)
+
+-- ---- a change of the table
+
+set-own : (l : List Entry) (i : ℕ) → set l i (at l i) ≡ l
+set-own [] i = refl
+set-own (x ∷ l) zero = refl
+set-own (x ∷ l) (suc i) = ap (λ (r : List Entry). x ∷ r) (set-own l i)
+
+-- an entry that is put where it stands
+pub stays : (t : Table) (e : Entry) → e ≡ at (t .entries) 0 → _≡_ {A = Table} (record { clock = t .clock; entries = set (t .entries) 0 e }) t
+stays t e h = λ k. record { clock = t .clock; entries = (ap (set (t .entries) 0) h ∙ set-own (t .entries) 0) k }
+
+-- one entry put into the swept row, which is the row itself where all are live
+pub after : (lifetime time : ℕ) (l : List Entry) (b : Bool) (i : ℕ) (e : Entry) (key : Key) (s : BlockState) → b ≡ all (live lifetime time) l → e ≡ inUse key time s
+    → _≡_ {A = Table} (record { clock = time; entries = set (cond (not b) (sweep lifetime time l) l) i e }) (tableAfter (sweep lifetime time l) time i key s)
+after lifetime time l b i e key s live-is entry-is = λ k. record { clock = time; entries = set (sweep-kept lifetime time l b (sym live-is) k) i (entry-is k) }
 
 -- ---- a piece that was lent
 

@@ -1,26 +1,51 @@
 // The two calls.
+use crate::Change;
 use crate::Outcome;
 use crate::Verdict;
 use crate::judge;
 use block_state::Answer;
+use block_state::BlockState;
 use block_state::Config;
+use block_table::Entry;
+use block_table::Key;
 use block_table::Table;
 ghost use mathlib.Core.Path.{_≡_};
 ghost use mathlib.Core.List.{List};
-ghost use Prim.Native.Nat.{ℕ};
+ghost use Prim.Native.Nat.{ℕ, _<_};
 ghost use lib.ListN.{length};
 ghost use Rattle.block_state.specs.Message.{request};
 ghost use Rattle.block_state.specs.Contract.{asking, replying};
-ghost use Rattle.block_table.specs.Table.{sweep, opened};
+ghost use Rattle.block_table.specs.Table.{inUse, sweep, opened};
 ghost use Rattle.block_handler.specs.Call.{done, callAt};
 ghost use Rattle.block_handler.specs.Verdict.{verdictOf};
-ghost use Rattle.block_handler.specs.Contract.{world, requestCall, responseCall, Meant};
+ghost use Rattle.block_handler.specs.Contract.{world, requestCall, responseCall, Meant, changed};
 
-fn refused(table: Table, n: u8) -> Outcome
-    ensures { λ r. ⌜ (r .table ≡ table) × (r .answer ≡ Answer.Refused n) ⌝ }
+// A refusal changes nothing: the first entry is put where it stands.
+fn refused(table: Table, n: u8) -> Change
+    ensures { λ r. ⌜ ((lifetime time : ℕ) → changed lifetime time table r ≡ table) × (r .answer ≡ Answer.Refused n) × (r .at < 16) ⌝ }
 {
+    let entries = table.entries;
+    let entry = block_table::entry_at(entries, 0);
     let answer = Answer::Refused(n);
-    Outcome { table, answer }
+    Change {
+        freed: false,
+        clock: table.clock,
+        at: 0,
+        entry,
+        answer,
+    }
+}
+
+// An entry in use, touched now.
+fn touched(key: Key, time: u64, state: BlockState) -> Entry
+    ensures { λ r. ⌜ r ≡ inUse key time state ⌝ }
+{
+    Entry {
+        key: key,
+        used: true,
+        touched: time,
+        state: state,
+    }
 }
 
 // A request at its place: the step on entry i and on its piece, put back.
@@ -38,14 +63,13 @@ fn request_at<'a>(
     given2: bool,
     block2: &'a [u8],
     payload: &'a [u8],
-) -> Outcome
+) -> Change
     requires { ⌜ verdictOf config table (length (now upload)) v time (now key) bare (length (now payload)) 0 ≡ Verdict.Place i ⌝ }
-    ensures { λ r. ⌜ ((d : List ℕ) → done (world (r .table) (now (upload .exit)) d) (r .answer) ≡ callAt config (world table (now (upload .entry)) d) time (sweep (config .lifetime) time (table .entries)) i (opened (now (key .entry)) (sweep (config .lifetime) time (table .entries))) (request (asking bare given1 (now (block1 .entry)) given2 (now (block2 .entry)) (now (payload .entry))))) ⌝ }
+    ensures { λ r. ⌜ ((d : List ℕ) → done (world (changed (config .lifetime) time table r) (now (upload .exit)) d) (r .answer) ≡ callAt config (world table (now (upload .entry)) d) time (sweep (config .lifetime) time (table .entries)) i (opened (now (key .entry)) (sweep (config .lifetime) time (table .entries))) (request (asking bare given1 (now (block1 .entry)) given2 (now (block2 .entry)) (now (payload .entry))))) × (r .at ≡ i) ⌝ }
 {
     let entries = table.entries;
-    let row = block_table::sweep_row(entries, config.lifetime, time);
-    let at = row[i];
-    let e = block_table::start_from(at, key);
+    let at = block_table::entry_at(entries, i);
+    let e = block_table::start_from(block_table::swept_entry(at, config.lifetime, time), key);
     let state = e.state;
     let home = i * config.upload;
     let away = i * config.response;
@@ -65,10 +89,14 @@ fn request_at<'a>(
     );
     let stored = e.key;
     let left = step.state;
-    let next = block_table::put_entry(row, time, i, stored, left);
+    let entry = touched(stored, time, left);
+    let freed = !block_table::all_live(entries, config.lifetime, time);
     let answer = step.answer;
-    Outcome {
-        table: next,
+    Change {
+        freed,
+        clock: time,
+        at: i,
+        entry,
         answer,
     }
 }
@@ -86,14 +114,13 @@ fn response_at<'a>(
     own: bool,
     head: &'a [u8],
     payload: &'a [u8],
-) -> Outcome
+) -> Change
     requires { ⌜ verdictOf config table u (length (now response)) time (now key) bare (length (now payload)) (length (now head)) ≡ Verdict.Place i ⌝ }
-    ensures { λ r. ⌜ ((m : List ℕ) → done (world (r .table) m (now (response .exit))) (r .answer) ≡ callAt config (world table m (now (response .entry))) time (sweep (config .lifetime) time (table .entries)) i (opened (now (key .entry)) (sweep (config .lifetime) time (table .entries))) (Rattle.block_state.specs.Message.response (replying bare own (now (head .entry)) (now (payload .entry))))) ⌝ }
+    ensures { λ r. ⌜ ((m : List ℕ) → done (world (changed (config .lifetime) time table r) m (now (response .exit))) (r .answer) ≡ callAt config (world table m (now (response .entry))) time (sweep (config .lifetime) time (table .entries)) i (opened (now (key .entry)) (sweep (config .lifetime) time (table .entries))) (Rattle.block_state.specs.Message.response (replying bare own (now (head .entry)) (now (payload .entry))))) × (r .at ≡ i) ⌝ }
 {
     let entries = table.entries;
-    let row = block_table::sweep_row(entries, config.lifetime, time);
-    let at = row[i];
-    let e = block_table::start_from(at, key);
+    let at = block_table::entry_at(entries, i);
+    let e = block_table::start_from(block_table::swept_entry(at, config.lifetime, time), key);
     let state = e.state;
     let from = i * config.response;
     let end = from + config.response;
@@ -108,16 +135,33 @@ fn response_at<'a>(
     );
     let stored = e.key;
     let left = step.state;
-    let next = block_table::put_entry(row, time, i, stored, left);
+    let entry = touched(stored, time, left);
+    let freed = !block_table::all_live(entries, config.lifetime, time);
     let answer = step.answer;
-    Outcome {
-        table: next,
+    Change {
+        freed,
+        clock: time,
+        at: i,
+        entry,
         answer,
     }
 }
 
-// A request, before the application sees it. The block options are given or not, and their bytes count only if they are.
-pub fn intercept_request<'a>(
+// The table with a change made.
+fn changed_table(table: Table, lifetime: u64, time: u64, change: Change) -> Table
+    ensures { λ r. ⌜ r ≡ changed lifetime time table change ⌝ }
+{
+    let entries = table.entries;
+    let entry = change.entry;
+    if change.freed {
+        let row = block_table::sweep_row(entries, lifetime, time);
+        return block_table::put_entry(row, change.clock, change.at, entry);
+    }
+    block_table::put_entry(entries, change.clock, change.at, entry)
+}
+
+// What a request changes. The block options are given or not, and their bytes count only if they are.
+pub fn request_change<'a>(
     config: Config,
     table: Table,
     upload: &mut [u8],
@@ -130,8 +174,8 @@ pub fn intercept_request<'a>(
     given2: bool,
     block2: &'a [u8],
     payload: &'a [u8],
-) -> Outcome
-    ensures { λ r. ⌜ Meant config (world table (now (upload .entry)) (now (response .entry))) (requestCall time (now (key .entry)) bare given1 (now (block1 .entry)) given2 (now (block2 .entry)) (now (payload .entry))) (world (r .table) (now (upload .exit)) (now (response .entry))) (r .answer) ⌝ }
+) -> Change
+    ensures { λ r. ⌜ (Meant config (world table (now (upload .entry)) (now (response .entry))) (requestCall time (now (key .entry)) bare given1 (now (block1 .entry)) given2 (now (block2 .entry)) (now (payload .entry))) (world (changed (config .lifetime) time table r) (now (upload .exit)) (now (response .entry))) (r .answer)) × (r .at < 16) ⌝ }
 {
     let u = upload.len();
     let v = response.len();
@@ -155,8 +199,47 @@ pub fn intercept_request<'a>(
     }
 }
 
-// A response, before it is sent. `own` says that it has a Block2 option of its own; `head` is its encoded header and options.
-pub fn intercept_response<'a>(
+// A request, before the application sees it.
+pub fn intercept_request<'a>(
+    config: Config,
+    table: Table,
+    upload: &mut [u8],
+    response: &'a [u8],
+    time: u64,
+    key: &'a [u8],
+    bare: usize,
+    given1: bool,
+    block1: &'a [u8],
+    given2: bool,
+    block2: &'a [u8],
+    payload: &'a [u8],
+) -> Outcome
+    ensures { λ r. ⌜ Meant config (world table (now (upload .entry)) (now (response .entry))) (requestCall time (now (key .entry)) bare given1 (now (block1 .entry)) given2 (now (block2 .entry)) (now (payload .entry))) (world (r .table) (now (upload .exit)) (now (response .entry))) (r .answer) ⌝ }
+{
+    let change = request_change(
+        config,
+        table,
+        upload,
+        response,
+        time,
+        key,
+        bare,
+        given1,
+        block1,
+        given2,
+        block2,
+        payload,
+    );
+    let answer = change.answer;
+    let next = changed_table(table, config.lifetime, time, change);
+    Outcome {
+        table: next,
+        answer,
+    }
+}
+
+// What a response changes. `own` says that it has a Block2 option of its own; `head` is its encoded header and options.
+pub fn response_change<'a>(
     config: Config,
     table: Table,
     upload: &'a [u8],
@@ -167,8 +250,8 @@ pub fn intercept_response<'a>(
     own: bool,
     head: &'a [u8],
     payload: &'a [u8],
-) -> Outcome
-    ensures { λ r. ⌜ Meant config (world table (now (upload .entry)) (now (response .entry))) (responseCall time (now (key .entry)) bare own (now (head .entry)) (now (payload .entry))) (world (r .table) (now (upload .entry)) (now (response .exit))) (r .answer) ⌝ }
+) -> Change
+    ensures { λ r. ⌜ (Meant config (world table (now (upload .entry)) (now (response .entry))) (responseCall time (now (key .entry)) bare own (now (head .entry)) (now (payload .entry))) (world (changed (config .lifetime) time table r) (now (upload .entry)) (now (response .exit))) (r .answer)) × (r .at < 16) ⌝ }
 {
     let u = upload.len();
     let v = response.len();
@@ -188,5 +271,40 @@ pub fn intercept_response<'a>(
             head,
             payload,
         ),
+    }
+}
+
+// A response, before it is sent.
+pub fn intercept_response<'a>(
+    config: Config,
+    table: Table,
+    upload: &'a [u8],
+    response: &mut [u8],
+    time: u64,
+    key: &'a [u8],
+    bare: usize,
+    own: bool,
+    head: &'a [u8],
+    payload: &'a [u8],
+) -> Outcome
+    ensures { λ r. ⌜ Meant config (world table (now (upload .entry)) (now (response .entry))) (responseCall time (now (key .entry)) bare own (now (head .entry)) (now (payload .entry))) (world (r .table) (now (upload .entry)) (now (response .exit))) (r .answer) ⌝ }
+{
+    let change = response_change(
+        config,
+        table,
+        upload,
+        response,
+        time,
+        key,
+        bare,
+        own,
+        head,
+        payload,
+    );
+    let answer = change.answer;
+    let next = changed_table(table, config.lifetime, time, change);
+    Outcome {
+        table: next,
+        answer,
     }
 }

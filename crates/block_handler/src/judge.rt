@@ -67,14 +67,13 @@ pub fn judge(
     if !message_ok(bare, payload, head) {
         return Verdict::Refused(1);
     }
-    if !block_table::valid(config, table) {
+    let i = block_table::place_in(config, table, time, key);
+    if i == 17 {
         return Verdict::Refused(1);
     }
     if time < table.clock {
         return Verdict::Refused(2);
     }
-    let entries = table.entries;
-    let i = block_table::place_of(entries, config.lifetime, time, key);
     if 16 <= i {
         return Verdict::Refused(3);
     }

@@ -1,5 +1,6 @@
 // The block handler's calls: on a table by value and two lent memories, for any bytes and numbers.
 use block_state::Answer;
+use block_table::Entry;
 use block_table::Table;
 
 mod calls;
@@ -7,12 +8,23 @@ mod judge;
 
 pub use calls::intercept_request;
 pub use calls::intercept_response;
+pub use calls::request_change;
+pub use calls::response_change;
 
 // What the checks before a step come to.
 pub enum Verdict {
     Refused(u8),
     // The entry's index.
     Place(usize),
+}
+
+// What a call changes of the table: the entries that are not live may have to be freed, the clock is set, and one entry is put in its place.
+pub struct Change {
+    pub freed: bool,
+    pub clock: u64,
+    pub at: usize,
+    pub entry: Entry,
+    pub answer: Answer,
 }
 
 // What a call leaves of the table, and what it answers.

@@ -10,6 +10,7 @@ pub use request::step_request;
 pub use response::step_response;
 
 // BlockHandlerConfig in the Rust, with the mode and the sizes of the pieces.
+#[repr(C)]
 pub struct Config {
     pub strict: bool,
     // T, max_total_message_size in the Rust.
@@ -53,6 +54,7 @@ pub struct BlockState {
 }
 
 // The bytes from..to: of the upload memory after Handed, of the response memory after Served, of the response's own payload after Whole and First.
+#[repr(C)]
 pub struct Part {
     pub from: usize,
     pub to: usize,

@@ -10,7 +10,7 @@ use lib.ListN.{length, getD, take, drop, set, drop-of-length-le}
 use lib.Seq.{take-suc-set, take-suc}
 use lib.Dec.{leb, eqb}
 use borrow.Author.Tests.{eqb-true, eq-eqb}
-use Rattle.digest.specs.Digest.{times, pairs}
+use Rattle.digest.specs.Digest.{times, pairs, digestOf, folded}
 use Rattle.digest.proofs.Counts.{Apart, told-apart}
 use Rattle.block_state.specs.declared.Config.{Config}
 use Rattle.block_state.specs.State.{stateOk}
@@ -18,10 +18,11 @@ use Rattle.block_table.specs.declared.Entry.{Entry}
 use Rattle.block_table.specs.declared.Table.{Table}
 use Rattle.block_table.specs.Lists.{all}
 use Rattle.block_table.specs.Keys.{same, keyOf, storedOk}
-use Rattle.block_table.specs.Table.{holds, entryOk, clash, distinct, tableOk}
-use Rattle.block_table.specs.Quick.{tagOf, tagsFrom, alone}
+use Rattle.block_table.specs.Table.{holds, entryOk, clash, distinct, tableOk, live, sweep, place}
+use Rattle.block_table.specs.Quick.{tagOf, tagsFrom, alone, holdsLive}
 use Rattle.block_table.proofs.Turns.{drop-step}
-use Rattle.block_state.proofs.Tests.{and-left, and-right}
+use Rattle.block_table.proofs.Entries.{live-used}
+use Rattle.block_state.proofs.Tests.{and-left, and-right, refute}
 
 -- ---- a clash
 
@@ -57,7 +58,7 @@ pub tags-length : (j : ℕ) (l : List Entry) → length (tagsFrom j l) ≡ lengt
 tags-length j [] = refl
 tags-length j (e ∷ rest) = ap suc (tags-length (j + 1) rest)
 
-tags-at : (l : List Entry) (i j : ℕ) (d : Entry) → i < length l → getD (tagsFrom j l) i 0 ≡ tagOf (getD l i d) (j + i)
+pub tags-at : (l : List Entry) (i j : ℕ) (d : Entry) → i < length l → getD (tagsFrom j l) i 0 ≡ tagOf (getD l i d) (j + i)
 tags-at [] i j d h = absurd (not-suc-le-zero h)
 tags-at (e ∷ rest) zero j d h = rw (add-zero j)
 tags-at (e ∷ rest) (suc i) j d h = tags-at rest i (j + 1) d (le-of-suc-le-suc h) ∙ ap (tagOf (getD rest i d)) (omega arith)
@@ -104,6 +105,15 @@ module _ (c : Config) (clock : ℕ) where
       let k : keyOf (e .key) ≡ keyOf (f .key) = same-eq (keyOf (e .key)) (keyOf (f .key)) (and-right (f .used) (same (keyOf (e .key)) (keyOf (f .key))) held) in
       rw (a, b, key-fits e a p, key-fits f b q, k)
 
+  -- an entry without the key's tag does not hold it
+  pub untagged : (k : List ℕ) (e : Entry) (i lifetime time : ℕ) → entryOk c clock e ≡ true → (tagOf e i ≡ folded (digestOf k) → ⊥) → holdsLive lifetime time k e ≡ false
+  unfolding holdsLive tagOf
+  untagged k e i lifetime time p n =
+      refute (live lifetime time e && same k (keyOf (e .key))) (λ h.
+      let a : e .used ≡ true = live-used lifetime time e (and-left (live lifetime time e) (same k (keyOf (e .key))) h) in
+      let q : k ≡ keyOf (e .key) = same-eq k (keyOf (e .key)) (and-right (live lifetime time e) (same k (keyOf (e .key))) h) in
+      n (rw (a, key-fits e a p, ← q)))
+
   clear : (e f : Entry) (i j : ℕ) (b : Bool) → clash e f ≡ b → entryOk c clock e ≡ true → entryOk c clock f ≡ true → hit (tagOf f j) (tagOf e i) ≡ 0 → b ≡ false
   clear e f i j false k p q h = refl
   clear e f i j true k p q h =
@@ -125,19 +135,22 @@ module _ (c : Config) (clock : ℕ) where
       let b = and-right (entryOk c clock e) (all (entryOk c clock) rest) p in
       rw (alone-by e rest j (j + 1) a b (h .0), distinct-by rest (j + 1) b (h .1))
 
--- ---- the table, by the cases of the code
+-- ---- the key's place in a table, by the cases of the code
 
-module _ (c : Config) (t : Table) where
-  pub off-each : all (entryOk c (t .clock)) (t .entries) ≡ false → tableOk c t ≡ false
+module _ (c : Config) (t : Table) (k : List ℕ) (lifetime time : ℕ) where
+  abbrev there : ℕ
+  there = place k (sweep lifetime time (t .entries))
+
+  pub off-each : all (entryOk c (t .clock)) (t .entries) ≡ false → cond (tableOk c t) there 17 ≡ 17
   unfolding tableOk
   off-each h = rw h
 
-  pub by-bytes : all (entryOk c (t .clock)) (t .entries) ≡ true → tableOk c t ≡ distinct (t .entries)
+  pub by-bytes : (b : Bool) → all (entryOk c (t .clock)) (t .entries) ≡ true → distinct (t .entries) ≡ b → cond (tableOk c t) there 17 ≡ cond b there 17
   unfolding tableOk
-  by-bytes h = rw h
+  by-bytes b h d = rw (h, d)
 
   pub by-tags : length (t .entries) ≡ 16 → all (entryOk c (t .clock)) (t .entries) ≡ true
-      → eqb (pairs (tagsFrom 0 (t .entries)) (tagsFrom 0 (t .entries))) 16 ≡ true → tableOk c t ≡ true
+      → eqb (pairs (tagsFrom 0 (t .entries)) (tagsFrom 0 (t .entries))) 16 ≡ true → cond (tableOk c t) there 17 ≡ there
   by-tags len h apart =
       let told = told-apart (tagsFrom 0 (t .entries)) (tags-length 0 (t .entries) ∙ len) apart in
-      by-bytes h ∙ distinct-by c (t .clock) (t .entries) 0 h told
+      by-bytes true h (distinct-by c (t .clock) (t .entries) 0 h told)

@@ -1,5 +1,5 @@
 -- The laws that the code's loops use: what one turn takes off the front of what is left; and those of its branches, by their cases. Assumes nothing.
-use mathlib.Core.Path.{_≡_, refl, sym, ap}
+use mathlib.Core.Path.{_≡_, refl, sym, ap, ap₂}
 use mathlib.Core.List.{List, [], _∷_, _++_, map}
 use mathlib.Core.Bool.{Bool, true, false, not, cond, _&&_, and-false}
 use Prim.Native.Nat.{ℕ, suc, zero, _+_, _-_, _≤_, _<_}
@@ -15,12 +15,19 @@ use Rattle.block_table.specs.declared.Entry.{Entry}
 use Rattle.block_table.specs.Lists.{find, all}
 use Rattle.block_table.specs.Keys.{same, keyOf}
 use Rattle.block_table.specs.Table.{free, holds, live, swept, sweep, unused, place}
-use Rattle.block_table.proofs.Entries.{live-used}
+use Rattle.block_table.proofs.Entries.{live-used, swept-live}
+use Rattle.block_state.proofs.Tests.{and-left, and-right}
 use Rattle.block_table.specs.Quick.{holdsLive, notLive}
 
 -- What an index past the end of a row reads, as Rattle has it. Below the length it does not matter.
 abbrev pub nil : Entry
 nil = record { key = record { bytes = []; len = 0 }; used = false; touched = 0; state = nothing }
+
+-- below the length of a row it does not matter what stands past its end
+pub getD-any : (l : List Entry) (i : ℕ) (d e : Entry) → i < length l → getD l i d ≡ getD l i e
+getD-any [] i d e h = absurd (omega arith)
+getD-any (x ∷ l) zero d e h = refl
+getD-any (x ∷ l) (suc i) d e h = getD-any l i d e (omega arith)
 
 module _ {A : Type 0} where
   pub drop-step : (l : List A) (i : ℕ) (d : A) → i < length l → drop i l ≡ getD l i d ∷ drop (i + 1) l
@@ -130,6 +137,17 @@ module _ (lifetime time : ℕ) (k : List ℕ) (e : Entry) where
   pub held-as : (b : Bool) → live lifetime time e ≡ true → same k (keyOf (e .key)) ≡ b → holdsLive lifetime time k e ≡ b
   unfolding holdsLive
   held-as b h s = rw (h, s)
+
+-- where all are live a sweep frees nothing
+swept-all : (lifetime time : ℕ) (l : List Entry) → all (live lifetime time) l ≡ true → map (swept lifetime time) l ≡ l
+swept-all lifetime time [] h = refl
+swept-all lifetime time (e ∷ rest) h =
+    ap₂ _∷_ (swept-live lifetime time e (and-left (live lifetime time e) (all (live lifetime time) rest) h)) (swept-all lifetime time rest (and-right (live lifetime time e) (all (live lifetime time) rest) h))
+
+pub sweep-kept : (lifetime time : ℕ) (l : List Entry) (b : Bool) → all (live lifetime time) l ≡ b → cond (not b) (sweep lifetime time l) l ≡ sweep lifetime time l
+unfolding sweep
+sweep-kept lifetime time l true h = sym (swept-all lifetime time l h)
+sweep-kept lifetime time l false h = refl
 
 -- One more entry of the row is mapped in place.
 module _ (f : Entry → Entry) (row : List Entry) (i : ℕ) (h : i < length row) where

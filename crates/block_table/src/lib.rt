@@ -9,10 +9,11 @@ ghost use mathlib.Core.Bool.{true, false, _&&_, cond};
 ghost use Prim.Native.Nat.{_-_, _≤_, _<_, _^_};
 ghost use lib.ListN.{length, take, drop, set};
 ghost use lib.Dec.{eqb, ltb};
+ghost use Rattle.digest.specs.Digest.{digestOf, folded};
 ghost use Rattle.block_state.specs.State.{nothing};
 ghost use Rattle.block_table.specs.Lists.{find, all};
 ghost use Rattle.block_table.specs.Keys.{same, keyOk, stored, isNoKey};
-ghost use Rattle.block_table.specs.Table.{inUse, free, entryOk, clash, distinct, tableOk, sweep, place, freshTable};
+ghost use Rattle.block_table.specs.Table.{inUse, free, entryOk, clash, distinct, tableOk, live, swept, sweep, at, place, freshTable};
 ghost use Rattle.block_table.specs.Quick.{tagOf, tagsFrom, alone, holdsLive, notLive};
 
 #[repr(C)]
@@ -39,6 +40,12 @@ fn size(x: u8) -> usize
     ensures { λ r. ⌜ (r ≡ x) × (r < 2 ^ 8) ⌝ }
 {
     x as usize
+}
+
+fn word(x: u8) -> u32
+    ensures { λ r. ⌜ (r ≡ x) × (r < 2 ^ 8) ⌝ }
+{
+    x as u32
 }
 
 fn small(x: usize) -> u8
@@ -80,7 +87,7 @@ pub fn same_bytes(a: &[u8], b: &[u8]) -> bool
 }
 
 // The key is the first `len` of the stored bytes, all of them where `len` is off the limits.
-fn same_key(key: &[u8], bytes: [u8; 64], len: usize) -> bool
+pub fn same_key(key: &[u8], bytes: [u8; 64], len: usize) -> bool
     ensures { λ r. ⌜ r ≡ same (now (key .entry)) (take len bytes) ⌝ }
 {
     if len <= 64 {
@@ -98,14 +105,14 @@ fn same_stored(a: [u8; 64], a_len: usize, b: [u8; 64], b_len: usize) -> bool
     same_key(&a, b, b_len)
 }
 
-// Summed, since such a loop is vectorised.
+// Summed in 32 bits, since such a loop is vectorised.
 fn zero_bytes(bytes: [u8; 64]) -> bool
     ensures { λ r. ⌜ r ≡ all (λ b. eqb b 0) bytes ⌝ }
 {
     let mut sum = 0;
     let mut i = 0;
     while i < 64 {
-        sum += size(bytes[i]);
+        sum += word(bytes[i]);
         i += 1;
     }
     sum == 0
@@ -171,7 +178,7 @@ fn entry_ok(config: Config, clock: u64, e: Entry) -> bool
 }
 
 fn each_ok(config: Config, clock: u64, entries: [Entry; 16]) -> bool
-    ensures { λ r. ⌜ r ≡ all (entryOk config clock) entries ⌝ }
+    ensures { λ r. ⌜ (r ≡ all (entryOk config clock) entries) × (length entries ≡ 16) ⌝ }
 {
     let mut i = 0;
     while i < 16 {
@@ -255,19 +262,6 @@ fn all_distinct(entries: [Entry; 16]) -> bool
     true
 }
 
-pub fn valid(config: Config, table: Table) -> bool
-    ensures { λ r. ⌜ r ≡ tableOk config table ⌝ }
-{
-    let entries = table.entries;
-    if !each_ok(config, table.clock, entries) {
-        return false;
-    }
-    if digest::apart(tags(entries)) {
-        return true;
-    }
-    all_distinct(entries)
-}
-
 // ---- Expiry
 
 fn age(touched: u64, time: u64) -> u64
@@ -276,7 +270,7 @@ fn age(touched: u64, time: u64) -> u64
     if touched <= time { time - touched } else { 0 }
 }
 
-fn is_live(used: bool, touched: u64, lifetime: u64, time: u64) -> bool
+pub fn is_live(used: bool, touched: u64, lifetime: u64, time: u64) -> bool
     ensures { λ r. ⌜ r ≡ (used && ltb (time - touched) lifetime) ⌝ }
 {
     used & (age(touched, time) < lifetime)
@@ -304,7 +298,7 @@ fn empty_state() -> BlockState
     }
 }
 
-fn free_entry() -> Entry
+pub fn free_entry() -> Entry
     ensures { λ r. ⌜ r ≡ free ⌝ }
 {
     let state = empty_state();
@@ -317,6 +311,29 @@ fn free_entry() -> Entry
         touched: 0,
         state: state,
     }
+}
+
+pub fn swept_entry(e: Entry, lifetime: u64, time: u64) -> Entry
+    ensures { λ r. ⌜ r ≡ swept lifetime time e ⌝ }
+{
+    if is_live(e.used, e.touched, lifetime, time) {
+        return e;
+    }
+    free_entry()
+}
+
+// A sweep would free nothing.
+pub fn all_live(entries: [Entry; 16], lifetime: u64, time: u64) -> bool
+    ensures { λ r. ⌜ r ≡ all (live lifetime time) entries ⌝ }
+{
+    let mut i = 0;
+    while i < 16 {
+        if !is_live(entries[i].used, entries[i].touched, lifetime, time) {
+            return false;
+        }
+        i += 1;
+    }
+    true
 }
 
 pub fn sweep_row(entries: [Entry; 16], lifetime: u64, time: u64) -> [Entry; 16]
@@ -367,7 +384,7 @@ fn find_free(entries: [Entry; 16], lifetime: u64, time: u64) -> usize
 }
 
 // The place of the key in the row that a sweep would leave, found without building that row; 16 if there is none.
-pub fn place_of(entries: [Entry; 16], lifetime: u64, time: u64, key: &[u8]) -> usize
+fn place_of(entries: [Entry; 16], lifetime: u64, time: u64, key: &[u8]) -> usize
     ensures { λ r. ⌜ r ≡ place (now (key .entry)) (sweep lifetime time entries) ⌝ }
 {
     let i = find_key(entries, lifetime, time, key);
@@ -375,6 +392,82 @@ pub fn place_of(entries: [Entry; 16], lifetime: u64, time: u64, key: &[u8]) -> u
         return i;
     }
     find_free(entries, lifetime, time)
+}
+
+// The tag of an entry in use for this key.
+fn key_tag(key: &[u8]) -> u32
+    requires { ⌜ length (now key) ≤ 64 ⌝ }
+    ensures { λ r. ⌜ r ≡ folded (digestOf (now (key .entry))) ⌝ }
+{
+    let bytes = padded(key);
+    digest::fold(digest::digest(bytes, key.len()))
+}
+
+// As find_key, in a row whose tags are known: only an entry with the key's own tag can hold it.
+fn find_tagged(
+    config: Config,
+    clock: u64,
+    entries: [Entry; 16],
+    row: [u32; 16],
+    own: u32,
+    time: u64,
+    key: &[u8],
+) -> usize
+    requires { ⌜ (all (entryOk config clock) entries ≡ true) × (row ≡ tagsFrom 0 entries) × (own ≡ folded (digestOf (now key))) ⌝ }
+    ensures { λ r. ⌜ r ≡ find (holdsLive (config .lifetime) time (now (key .entry))) entries ⌝ }
+{
+    let mut i = 0;
+    while i < 16 {
+        let tagged = row[i] == own;
+        if tagged & is_live(entries[i].used, entries[i].touched, config.lifetime, time) {
+            let e = entries[i];
+            let stored = e.key;
+            let bytes = stored.bytes;
+            if same_key(key, bytes, size(stored.len)) {
+                return i;
+            }
+        }
+        i += 1;
+    }
+    16
+}
+
+fn place_tagged(
+    config: Config,
+    clock: u64,
+    entries: [Entry; 16],
+    row: [u32; 16],
+    time: u64,
+    key: &[u8],
+) -> usize
+    requires { ⌜ (all (entryOk config clock) entries ≡ true) × (row ≡ tagsFrom 0 entries) × (length (now key) ≤ 64) ⌝ }
+    ensures { λ r. ⌜ r ≡ place (now (key .entry)) (sweep (config .lifetime) time entries) ⌝ }
+{
+    let i = find_tagged(config, clock, entries, row, key_tag(key), time, key);
+    if i < 16 {
+        return i;
+    }
+    find_free(entries, config.lifetime, time)
+}
+
+// The place of the key in the row that a sweep would leave, where the table is within its limits; else 17.
+pub fn place_in(config: Config, table: Table, time: u64, key: &[u8]) -> usize
+    requires { ⌜ length (now key) ≤ 64 ⌝ }
+    ensures { λ r. ⌜ (r ≡ cond (tableOk config table) (place (now (key .entry)) (sweep (config .lifetime) time (table .entries))) 17) × (length (table .entries) ≡ 16) ⌝ }
+{
+    let entries = table.entries;
+    let clock = table.clock;
+    if !each_ok(config, clock, entries) {
+        return 17;
+    }
+    let row = tags(entries);
+    if digest::apart(row) {
+        return place_tagged(config, clock, entries, row, time, key);
+    }
+    if all_distinct(entries) {
+        return place_of(entries, config.lifetime, time, key);
+    }
+    17
 }
 
 // The entry that a call starts from, of the one at the key's place in a swept row.
@@ -395,21 +488,23 @@ pub fn start_from(e: Entry, key: &[u8]) -> Entry
     }
 }
 
-// The row with this entry in use at i, and the clock recorded. An i of 16 or more changes no entry.
-pub fn put_entry(entries: [Entry; 16], time: u64, i: usize, key: Key, state: BlockState) -> Table
-    ensures { λ r. ⌜ r ≡ record { clock = time; entries = set entries i (inUse key time state) } ⌝ }
+pub fn entry_at(entries: [Entry; 16], i: usize) -> Entry
+    requires { ⌜ i < 16 ⌝ }
+    ensures { λ r. ⌜ (r ≡ at entries i) × (length entries ≡ 16) ⌝ }
+{
+    entries[i]
+}
+
+// The row with this entry at i, and the clock recorded. An i of 16 or more changes no entry.
+pub fn put_entry(entries: [Entry; 16], clock: u64, i: usize, e: Entry) -> Table
+    ensures { λ r. ⌜ r ≡ record { clock = clock; entries = set entries i e } ⌝ }
 {
     let mut row = entries;
     if i < 16 {
-        row[i] = Entry {
-            key: key,
-            used: true,
-            touched: time,
-            state: state,
-        };
+        row[i] = e;
     }
     Table {
-        clock: time,
+        clock: clock,
         entries: row,
     }
 }

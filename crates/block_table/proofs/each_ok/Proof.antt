@@ -31,7 +31,7 @@ entry-ok-requires c κs = search needs
 returns : tie.Need-returns Inv-loop μ-loop
 returns c =
     let l = c .before .before .before .before in
-    sym (all-no (entryOk (l .before .args .config) (l .before .args .clock)) (l .before .args .t3) (l .loop .i) nil (search needs) (sym (c .before .entry-ok .ensures) ∙ not-true _ (c .if1 .taken))) ∙ l .loop .inv .1 .1
+    (sym (all-no (entryOk (l .before .args .config) (l .before .args .clock)) (l .before .args .t3) (l .loop .i) nil (search needs) (sym (c .before .entry-ok .ensures) ∙ not-true _ (c .if1 .taken))) ∙ l .loop .inv .1 .1, l .loop .inv .0)
 
 add-i : tie.Need-add-i Inv-loop μ-loop
 add-i c = search needs
@@ -48,7 +48,7 @@ loop-again c =
 returns-2 : tie.Need-returns-2 Inv-loop μ-loop
 returns-2 c =
     let l = c .before in
-    sym (all-end (entryOk (l .before .args .config) (l .before .args .clock)) (l .before .args .t3) (l .loop .i) (omega arith)) ∙ l .loop .inv .1 .1
+    (sym (all-end (entryOk (l .before .args .config) (l .before .args .clock)) (l .before .args .t3) (l .loop .i) (omega arith)) ∙ l .loop .inv .1 .1, l .loop .inv .0)
 
 pub each-ok-spec : {M : Type 1} → statement M
 each-ok-spec =

@@ -1,5 +1,4 @@
 use lib.Seq.{set-out}
-use Rattle.block_table.specs.Table.{inUse}
 use borrow.Author.Needs.{needs}
 use Rattle.block_table.proofs.put_entry.Statement.{statement}
 use Rattle.block_table.proofs.put_entry.Tie as tie
@@ -14,7 +13,7 @@ returns : tie.Need-returns
 returns c = search needs
 
 returns-2 : tie.Need-returns-2
-returns-2 c = let a = c .before .args in rw (set-out (a .entries) (a .i) (inUse (a .key) (a .time) (a .state)) (search needs))
+returns-2 c = let a = c .before .args in rw (set-out (a .entries) (a .i) (a .e) (search needs))
 
 pub put-entry-spec : {M : Type 1} → statement M
 put-entry-spec = tie.close (tie.spec mul-row array-set-from-row returns returns-2)

@@ -16,11 +16,11 @@ abbrev μ-loop : tie.MeasureT-loop
 loop-holds : tie.Need-loop-holds Inv-loop μ-loop
 loop-holds c = (search needs, (search needs, (search needs, omega arith)))
 
-array-read-size : tie.Need-array-read-size Inv-loop μ-loop
-array-read-size c = search needs
+array-read-word : tie.Need-array-read-word Inv-loop μ-loop
+array-read-word c = search needs
 
-size-requires : tie.Need-size-requires Inv-loop μ-loop
-size-requires c κs = search needs
+word-requires : tie.Need-word-requires Inv-loop μ-loop
+word-requires c κs = search needs
 
 add-sum : tie.Need-add-sum Inv-loop μ-loop
 add-sum c = search needs
@@ -34,7 +34,7 @@ loop-less c = search needs
 loop-again : tie.Need-loop-again Inv-loop μ-loop
 loop-again c =
     let l = c .before .before in
-    let go = total-go (l .before .args .t1) (l .loop .i) (l .loop .sum) _ _ (search needs) (c .size .ensures .0) (l .loop .inv .1 .1 .1) in
+    let go = total-go (l .before .args .t1) (l .loop .i) (l .loop .sum) _ _ (search needs) (c .word .ensures .0) (l .loop .inv .1 .1 .1) in
     (search needs, (search needs, (search needs, go)))
 
 returns : tie.Need-returns Inv-loop μ-loop
@@ -49,8 +49,8 @@ zero-bytes-spec =
     Inv-loop
     μ-loop
     loop-holds
-    array-read-size
-    size-requires
+    array-read-word
+    word-requires
     add-sum
     add-i
     loop-less

@@ -1,42 +1,20 @@
-use mathlib.Core.Path.{sym, _∙_}
-use Rattle.block_handler.proofs.Meanings.{call-by, response-ok, refusal}
+use mathlib.Core.Path.{_∙_}
 use borrow.Author.Needs.{needs}
 use Rattle.block_handler.proofs.calls.intercept_response.Statement.{statement}
 use Rattle.block_handler.proofs.calls.intercept_response.Tie as tie
 
-judge-requires : tie.Need-judge-requires
-judge-requires c κs = search needs
+response-change-requires : tie.Need-response-change-requires
+response-change-requires c κs = search needs
 
-enum-known-n : tie.Need-enum-known-n
-enum-known-n c = search needs
-
-refused-requires : tie.Need-refused-requires
-refused-requires c κs = search needs
-
-enum-known-i : tie.Need-enum-known-i
-enum-known-i c = search needs
-
-response-at-requires : tie.Need-response-at-requires
-response-at-requires c κs = sym (c .before .before .before .before .judge .ensures) ∙ c .before .before .i .given .1
-
-returns : tie.Need-returns
-returns c = refusal _ _ _ _ (c .refused .ensures .0) (c .refused .ensures .1) ∙ call-by _ _ _ _ _ _ (response-ok _) _ _ (c .before .before .before .before .judge .ensures) (c .before .before .n .given .1)
+changed-table-requires : tie.Need-changed-table-requires
+changed-table-requires c κs = search needs
 
 same-length : tie.Need-same-length
 same-length c = search needs
 
-returns-2 : tie.Need-returns-2
-returns-2 c = c .before .before .response-at .ensures (c .before .before .before .before .before .before .before .before .before .before .before .before .before .args .upload .now) ∙ call-by _ _ _ _ _ _ (response-ok _) _ _ (c .before .before .before .before .before .before .before .judge .ensures) (c .before .before .before .before .before .i .given .1)
+returns : tie.Need-returns
+returns c = rw (c .changed-table .ensures) (c .before .before .before .response-change .ensures .0)
 
 pub intercept-response-spec : {M : Type 1} → statement M
 intercept-response-spec =
-    tie.close
-    (tie.spec
-    judge-requires
-    enum-known-n
-    refused-requires
-    enum-known-i
-    response-at-requires
-    returns
-    same-length
-    returns-2)
+    tie.close (tie.spec response-change-requires changed-table-requires same-length returns)

@@ -1,0 +1,80 @@
+// The two calls on a table by value, with the answer in numbers.
+use crate::Outcome;
+use crate::numbers;
+use block_state::Config;
+use block_table::Table;
+ghost use mathlib.Core.Path.{_≡_};
+ghost use Rattle.block_handler.specs.Contract.{world, requestCall, responseCall};
+ghost use Rattle.handler_c.specs.Contract.{Replies};
+
+pub fn request<'a>(
+    table: Table,
+    config: Config,
+    upload: &mut [u8],
+    response: &'a [u8],
+    time: u64,
+    key: &'a [u8],
+    bare: usize,
+    given1: bool,
+    block1: &'a [u8],
+    given2: bool,
+    block2: &'a [u8],
+    payload: &'a [u8],
+) -> Outcome
+    ensures { λ r. ⌜ Replies config (world table (now (upload .entry)) (now (response .entry))) (requestCall time (now (key .entry)) bare given1 (now (block1 .entry)) given2 (now (block2 .entry)) (now (payload .entry))) (world (r .table) (now (upload .exit)) (now (response .entry))) (r .reply) ⌝ }
+{
+    let out = block_handler::intercept_request(
+        config,
+        table,
+        upload,
+        response,
+        time,
+        key,
+        bare,
+        given1,
+        block1,
+        given2,
+        block2,
+        payload,
+    );
+    let next = out.table;
+    let answer = out.answer;
+    Outcome {
+        table: next,
+        reply: numbers::reply_of(answer),
+    }
+}
+
+pub fn response<'a>(
+    table: Table,
+    config: Config,
+    upload: &'a [u8],
+    response: &mut [u8],
+    time: u64,
+    key: &'a [u8],
+    bare: usize,
+    own: bool,
+    head: &'a [u8],
+    payload: &'a [u8],
+) -> Outcome
+    ensures { λ r. ⌜ Replies config (world table (now (upload .entry)) (now (response .entry))) (responseCall time (now (key .entry)) bare own (now (head .entry)) (now (payload .entry))) (world (r .table) (now (upload .entry)) (now (response .exit))) (r .reply) ⌝ }
+{
+    let out = block_handler::intercept_response(
+        config,
+        table,
+        upload,
+        response,
+        time,
+        key,
+        bare,
+        own,
+        head,
+        payload,
+    );
+    let next = out.table;
+    let answer = out.answer;
+    Outcome {
+        table: next,
+        reply: numbers::reply_of(answer),
+    }
+}

@@ -1,0 +1,209 @@
+// The handler for programs in C and Rust: its calls on a table and memories that the caller owns, with answers as numbers.
+use block_state::Config;
+use block_state::Part;
+use block_table::Table;
+use block_value::BlockValue;
+use block_value::Reading;
+ghost use mathlib.Core.Path.{_≡_};
+ghost use Rattle.block_value.specs.Value.{readOf, written};
+ghost use Rattle.block_table.specs.Table.{freshTable};
+ghost use Rattle.block_handler.specs.Contract.{world, requestCall, responseCall};
+ghost use Rattle.handler_c.specs.Reply.{blockRead, inTwoBytes};
+ghost use Rattle.handler_c.specs.Found.{foundIn, bodyIn, servedHeadIn, chunkIn, sentIn};
+ghost use Rattle.handler_c.specs.Contract.{Replies};
+
+mod calls;
+mod numbers;
+
+// A block value, or none: all zeros.
+#[repr(C)]
+pub struct Block {
+    pub given: bool,
+    pub more: bool,
+    pub exponent: u8,
+    pub num: u32,
+}
+
+// An answer in numbers.
+#[repr(C)]
+pub struct Reply {
+    // 0 Refused, 1 Continue, 2 TooLarge, 3 Handed, 4 Pass, 5 Served, 6 Plain, 7 Whole, 8 First.
+    pub kind: u8,
+    // 1 to 10 for a refusal, else 0.
+    pub refusal: u8,
+    // The response code of an answer that has one, else 0.
+    pub code: u8,
+    pub block1: Block,
+    pub block2: Block,
+    // The body of Handed, or the chunk of Served, Whole and First.
+    pub part: Part,
+    // The head of Served.
+    pub head: Part,
+}
+
+// Where bytes stand that an answer shows: from..to of the message's payload (1) or of a lent memory (2). Nothing to show is 0.
+#[repr(C)]
+pub struct Found {
+    pub place: u8,
+    pub from: usize,
+    pub to: usize,
+}
+
+// An option's bytes: the first len of them; the others are 0.
+#[repr(C)]
+pub struct OptionBytes {
+    pub len: usize,
+    pub bytes: [u8; 2],
+}
+
+// What a call leaves of the table, and its answer in numbers.
+pub struct Outcome {
+    pub table: Table,
+    pub reply: Reply,
+}
+
+#[no_mangle]
+pub extern "C" fn block_handler_default_config(
+    strict: bool,
+    upload: usize,
+    response: usize,
+) -> Config
+    ensures { λ r. ⌜ r ≡ record { strict = strict; limit = 1152; lifetime = 120000; upload = upload; response = response } ⌝ }
+{
+    limits::default_config(strict, upload, response)
+}
+
+#[no_mangle]
+pub extern "C" fn block_handler_fresh() -> Table
+    ensures { λ r. ⌜ r ≡ freshTable ⌝ }
+{
+    block_table::fresh()
+}
+
+// An option's bytes as a block value; one that cannot be read counts as absent.
+#[no_mangle]
+pub extern "C" fn block_handler_read(option: &[u8]) -> Block
+    ensures { λ r. ⌜ r ≡ blockRead (readOf (now (option .entry))) ⌝ }
+{
+    let Reading::Value(block) = block_value::read(option) else {
+        return numbers::no_block();
+    };
+    numbers::given(block)
+}
+
+#[no_mangle]
+pub extern "C" fn block_handler_write(num: u32, more: bool, exponent: u8) -> OptionBytes
+    ensures { λ r. ⌜ r ≡ inTwoBytes (written (record { num = num; more = more; «size_exponent» = exponent })) ⌝ }
+{
+    let option = block_value::write(BlockValue {
+        num,
+        more,
+        size_exponent: exponent,
+    });
+    let bytes = option.bytes;
+    OptionBytes {
+        len: option.len,
+        bytes,
+    }
+}
+
+// The body that the application sees, of a payload and an upload memory of these lengths.
+#[no_mangle]
+pub extern "C" fn block_handler_body(reply: Reply, payload: usize, upload: usize) -> Found
+    ensures { λ r. ⌜ r ≡ foundIn (bodyIn reply) payload upload ⌝ }
+{
+    numbers::found_in(numbers::body_in(reply), payload, upload)
+}
+
+// The head that a served chunk goes out under, of a response memory of this length.
+#[no_mangle]
+pub extern "C" fn block_handler_served_head(reply: Reply, response: usize) -> Found
+    ensures { λ r. ⌜ r ≡ foundIn (servedHeadIn reply) response response ⌝ }
+{
+    numbers::found_in(numbers::head_in(reply), response, response)
+}
+
+#[no_mangle]
+pub extern "C" fn block_handler_served_chunk(reply: Reply, response: usize) -> Found
+    ensures { λ r. ⌜ r ≡ foundIn (chunkIn reply) response response ⌝ }
+{
+    numbers::found_in(numbers::chunk_in(reply), response, response)
+}
+
+// What a response sends of its own payload, which has this length.
+#[no_mangle]
+pub extern "C" fn block_handler_sent(reply: Reply, payload: usize) -> Found
+    ensures { λ r. ⌜ r ≡ foundIn (sentIn reply) payload payload ⌝ }
+{
+    numbers::found_in(numbers::sent_in(reply), payload, payload)
+}
+
+// A request, before the application sees it: intercept_request in the Rust.
+#[no_mangle]
+pub extern "C" fn block_handler_request<'a>(
+    table: &mut Table,
+    config: Config,
+    upload: &mut [u8],
+    response: &'a [u8],
+    time: u64,
+    key: &'a [u8],
+    bare: usize,
+    given1: bool,
+    block1: &'a [u8],
+    given2: bool,
+    block2: &'a [u8],
+    payload: &'a [u8],
+) -> Reply
+    ensures { λ r. ⌜ Replies config (world (now (table .entry)) (now (upload .entry)) (now (response .entry))) (requestCall time (now (key .entry)) bare given1 (now (block1 .entry)) given2 (now (block2 .entry)) (now (payload .entry))) (world (now (table .exit)) (now (upload .exit)) (now (response .entry))) r ⌝ }
+{
+    let old = *table;
+    let out = calls::request(
+        old,
+        config,
+        upload,
+        response,
+        time,
+        key,
+        bare,
+        given1,
+        block1,
+        given2,
+        block2,
+        payload,
+    );
+    *table = out.table;
+    out.reply
+}
+
+// A response, before it is sent: intercept_response in the Rust.
+#[no_mangle]
+pub extern "C" fn block_handler_response<'a>(
+    table: &mut Table,
+    config: Config,
+    upload: &'a [u8],
+    response: &mut [u8],
+    time: u64,
+    key: &'a [u8],
+    bare: usize,
+    own: bool,
+    head: &'a [u8],
+    payload: &'a [u8],
+) -> Reply
+    ensures { λ r. ⌜ Replies config (world (now (table .entry)) (now (upload .entry)) (now (response .entry))) (responseCall time (now (key .entry)) bare own (now (head .entry)) (now (payload .entry))) (world (now (table .exit)) (now (upload .entry)) (now (response .exit))) r ⌝ }
+{
+    let old = *table;
+    let out = calls::response(
+        old,
+        config,
+        upload,
+        response,
+        time,
+        key,
+        bare,
+        own,
+        head,
+        payload,
+    );
+    *table = out.table;
+    out.reply
+}

@@ -1,0 +1,66 @@
+-- The laws that the covered functions use, by their branches. Assumes nothing.
+use Prim.Native.Nat.{ℕ, _≤_, _<_, _^_}
+use mathlib.Core.Bool.{Bool, true, false, _&&_}
+use mathlib.Core.Path.{_≡_, refl, sym}
+use mathlib.Core.List.{List}
+use native.Mathlib.Omega.{arith}
+use lib.ListN.{length}
+use lib.Dec.{leb, ltb, eqb}
+use borrow.Author.Tests.{eqb-true, leb-true, ltb-true, lt-ltb, le-ltb}
+use Rattle.block_state.specs.declared.Config.{Config}
+use Rattle.block_state.specs.declared.BlockState.{BlockState}
+use Rattle.block_state.specs.declared.Answer.the-variants.{Refused}
+use Rattle.block_state.specs.Message.{Request}
+use Rattle.block_state.specs.Step.{stepRequest}
+use Rattle.block_state.specs.Contract.{Room}
+use Rattle.block_state.proofs.Tests.{and-left, and-right}
+use Rattle.block_table.specs.declared.Entry.{Entry}
+use Rattle.block_table.specs.Keys.{same, keyOf}
+use Rattle.block_table.specs.Table.{holds}
+use Rattle.lent.specs.declared.Seen.{Seen}
+use Rattle.lent.specs.Lent.{Lent, lent, roomFor, touched, requestLent}
+use Rattle.lent.specs.Row.{seenAs}
+
+-- ---- an entry
+
+module _ (c : Config) (home away : ℕ) (s : BlockState) (n : ℕ) where
+  pub room-of : roomFor c home away s n ≡ true → Room c home away s n
+  unfolding roomFor
+  room-of e =
+      let d = and-left _ (ltb away 4294967296) e in
+      let c3 = and-left _ (ltb home 4294967296) d in
+      let b = and-left _ (leb (s .assembled .len) n) c3 in
+      record {
+        size = eqb-true n (c .upload) (and-left _ (ltb n 4294967296) b);
+        small = ltb-true n 4294967296 (and-right (eqb n (c .upload)) _ b);
+        holds = leb-true (s .assembled .len) n (and-right (eqb n (c .upload) && ltb n 4294967296) _ c3);
+        home = ltb-true home 4294967296 (and-right (eqb n (c .upload) && ltb n 4294967296 && leb (s .assembled .len) n) _ d);
+        away = ltb-true away 4294967296 (and-right (eqb n (c .upload) && ltb n 4294967296 && leb (s .assembled .len) n && ltb home 4294967296) _ e);
+      }
+
+module _ (c : Config) (home away time : ℕ) (e : Entry) (u : List ℕ) (r : Request) where
+  pub with-room : roomFor c home away (e .state) (length u) ≡ true → requestLent c home away time e u r ≡ touched e time (stepRequest c home away (e .state) u r)
+  unfolding requestLent
+  with-room h = rw h
+
+  pub no-room : roomFor c home away (e .state) (length u) ≡ false → requestLent c home away time e u r ≡ lent e u (Refused 1)
+  unfolding requestLent
+  no-room h = rw h
+
+-- ---- a row
+
+module _ (k : List ℕ) (e : Entry) where
+  pub held-as : (b : Bool) → e .used ≡ true → same k (keyOf (e .key)) ≡ b → holds k e ≡ b
+  unfolding holds
+  held-as b u s = rw (u, s)
+
+  pub not-held : e .used ≡ false → holds k e ≡ false
+  unfolding holds
+  not-held u = rw u
+
+module _ (found free : ℕ) where
+  pub seen-found : found < 16 → _≡_ {A = Seen} (record { found = found; free = free; place = found }) (seenAs found free)
+  seen-found h = rw (lt-ltb found 16 h)
+
+  pub seen-free : 16 ≤ found → _≡_ {A = Seen} (record { found = found; free = free; place = free }) (seenAs found free)
+  seen-free h = rw (le-ltb found 16 h)

@@ -1,0 +1,14 @@
+use Rattle.lent.specs.Lent.{roomFor}
+use borrow.Author.Needs.{needs}
+use Rattle.lent.proofs.room_for.Statement.{statement}
+use Rattle.lent.proofs.room_for.Tie as tie
+
+wide-requires : tie.Need-wide-requires
+wide-requires c κs = search needs
+
+returns : tie.Need-returns
+unfolding roomFor
+returns c = rw (c .wide .ensures)
+
+pub room-for-spec : {M : Type 1} → statement M
+room-for-spec = tie.close (tie.spec wide-requires returns)

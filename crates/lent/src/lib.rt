@@ -1,0 +1,202 @@
+// The lent forms of document 01: one key's entry by `&mut`, and the table's entries as a lent row.
+use block_state::Answer;
+use block_state::BlockState;
+use block_state::Config;
+use block_table::Entry;
+ghost use mathlib.Core.Path.{_≡_};
+ghost use Rattle.block_state.specs.Contract.{asking};
+ghost use Rattle.block_table.specs.Table.{holds, sweep, place};
+ghost use Rattle.lent.specs.Lent.{lent, roomFor, requestLent};
+ghost use Rattle.lent.specs.Row.{firstOf, seenNext};
+
+// What a call leaves of an entry, and what it answers.
+pub struct Outcome {
+    pub entry: Entry,
+    pub answer: Answer,
+}
+
+// What a walk has seen of the row so far: the first entry for the key and the first free one, each the number of entries seen if there is none;
+// and the key's place if the row ended here.
+pub struct Seen {
+    pub found: usize,
+    pub free: usize,
+    pub place: usize,
+}
+
+fn refused(e: Entry) -> Outcome
+    ensures { λ r. ⌜ (r .entry ≡ e) × (r .answer ≡ Answer.Refused 1) ⌝ }
+{
+    let answer = Answer::Refused(1);
+    Outcome { entry: e, answer }
+}
+
+fn wide(n: u32) -> usize
+    ensures { λ r. ⌜ r ≡ n ⌝ }
+{
+    n as usize
+}
+
+// The piece is of the configuration's size and holds what is assembled, and no place in a memory overflows.
+fn room_for(config: Config, home: usize, away: usize, state: BlockState, n: usize) -> bool
+    ensures { λ r. ⌜ r ≡ roomFor config home away state n ⌝ }
+{
+    (n == config.upload)
+        & (n < 4294967296)
+        & (wide(state.assembled.len) <= n)
+        & (home < 4294967296)
+        & (away < 4294967296)
+}
+
+// A request's step on an entry by value, where there is room for it; else refusal 1.
+fn step_request<'a>(
+    e: Entry,
+    config: Config,
+    home: usize,
+    away: usize,
+    time: u64,
+    piece: &mut [u8],
+    bare: usize,
+    given1: bool,
+    block1: &'a [u8],
+    given2: bool,
+    block2: &'a [u8],
+    payload: &'a [u8],
+) -> Outcome
+    ensures { λ r. ⌜ lent (r .entry) (now (piece .exit)) (r .answer) ≡ requestLent config home away time e (now (piece .entry)) (asking bare given1 (now (block1 .entry)) given2 (now (block2 .entry)) (now (payload .entry))) ⌝ }
+{
+    let state = e.state;
+    if !room_for(config, home, away, state, piece.len()) {
+        return refused(e);
+    }
+    let step = block_state::step_request(
+        config,
+        home,
+        away,
+        state,
+        piece,
+        bare,
+        given1,
+        block1,
+        given2,
+        block2,
+        payload,
+    );
+    let key = e.key;
+    let left = step.state;
+    let answer = step.answer;
+    Outcome {
+        entry: Entry {
+            key: key,
+            used: true,
+            touched: time,
+            state: left,
+        },
+        answer,
+    }
+}
+
+// A request on an entry that is lent: its state is stepped, and it is touched. `home` and `away` are where the key's two pieces begin.
+pub fn request<'a>(
+    e: &mut Entry,
+    config: Config,
+    home: usize,
+    away: usize,
+    time: u64,
+    piece: &mut [u8],
+    bare: usize,
+    given1: bool,
+    block1: &'a [u8],
+    given2: bool,
+    block2: &'a [u8],
+    payload: &'a [u8],
+) -> Answer
+    ensures { λ r. ⌜ lent (now (e .exit)) (now (piece .exit)) r ≡ requestLent config home away time (now (e .entry)) (now (piece .entry)) (asking bare given1 (now (block1 .entry)) given2 (now (block2 .entry)) (now (payload .entry))) ⌝ }
+{
+    let old = *e;
+    let out = step_request(
+        old,
+        config,
+        home,
+        away,
+        time,
+        piece,
+        bare,
+        given1,
+        block1,
+        given2,
+        block2,
+        payload,
+    );
+    *e = out.entry;
+    out.answer
+}
+
+fn size(x: u8) -> usize
+    ensures { λ r. ⌜ r ≡ x ⌝ }
+{
+    x as usize
+}
+
+fn holds_key(e: Entry, key: &[u8]) -> bool
+    ensures { λ r. ⌜ r ≡ holds (now (key .entry)) e ⌝ }
+{
+    if e.used {
+        let stored = e.key;
+        let bytes = stored.bytes;
+        return block_table::same_key(key, bytes, size(stored.len));
+    }
+    false
+}
+
+// The first that passes among those seen, once the next one, i, is seen too.
+fn first_of(found: usize, i: usize, next: usize, passes: bool) -> usize
+    ensures { λ r. ⌜ r ≡ firstOf found i next passes ⌝ }
+{
+    if found < i {
+        return found;
+    }
+    if passes {
+        return i;
+    }
+    next
+}
+
+// What is seen once entry i is looked at with the key.
+fn see(seen: Seen, i: usize, next: usize, e: Entry, key: &[u8]) -> Seen
+    ensures { λ r. ⌜ r ≡ seenNext seen i next e (now (key .entry)) ⌝ }
+{
+    let found = first_of(seen.found, i, next, holds_key(e, key));
+    let free = first_of(seen.free, i, next, !e.used);
+    if found < 16 {
+        return Seen {
+            found,
+            free,
+            place: found,
+        };
+    }
+    Seen {
+        found,
+        free,
+        place: free,
+    }
+}
+
+// The walk over a lent row: frees every entry that is not live, and gives the place of the key among those that are left.
+pub fn find_and_free(entries: &mut [Entry], lifetime: u64, time: u64, key: &[u8]) -> usize
+    ensures { λ r. ⌜ (now (entries .exit) ≡ sweep lifetime time (now (entries .entry))) × (r ≡ place (now (key .entry)) (sweep lifetime time (now (entries .entry)))) ⌝ }
+{
+    let mut seen = Seen {
+        found: 0,
+        free: 0,
+        place: 0,
+    };
+    let mut i = 0;
+    while i < entries.len() {
+        let left = block_table::swept_entry(entries[i], lifetime, time);
+        entries[i] = left;
+        let next = i + 1;
+        seen = see(seen, i, next, left, key);
+        i = next;
+    }
+    seen.place
+}

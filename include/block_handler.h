@@ -1,0 +1,244 @@
+/* The block handler (RFC 7959) for C: the functions of libhandler_c.a, for x86-64 Linux.
+ *
+ * Every function is total: any numbers, lengths and bytes may be passed. What is off the limits gets refusal 1.
+ * The caller owns the table and both memories and lends them to each call. Nothing is allocated, and no pointer is kept.
+ * What is lent to one call must not overlap, except that bytes which are only read may. A pointer whose length is 0 is not
+ * read, but must not be NULL. A bool holds 0 or 1, also within the table.
+ *
+ * A slice crosses as two arguments, pointer then length, wherever it stands in the list, and a struct as C passes it by value:
+ * so the functions are declared here as they are compiled, and need no wrapper. */
+#ifndef BLOCK_HANDLER_H
+#define BLOCK_HANDLER_H
+
+#include <assert.h>
+#include <stdbool.h>
+#include <stddef.h>
+#include <stdint.h>
+
+#ifdef __cplusplus
+extern "C" {
+#define BLOCK_HANDLER_ASSERT(fact) static_assert(fact, #fact)
+#else
+#define BLOCK_HANDLER_ASSERT(fact) _Static_assert(fact, #fact)
+#endif
+
+/* The table's entries: at most so many keys are live at a time. Each owns one piece of either memory. */
+#define BLOCK_HANDLER_ENTRIES 16
+
+/* How the handler is set up. A call with other settings than the call before it may find the table off its limits. */
+struct block_handler_config {
+    bool strict;       /* false: plain mode, as the Rust answers. true: only the next block is taken. */
+    size_t limit;      /* T, the most bytes of a message: 1 to 65535. */
+    uint64_t lifetime; /* Milliseconds that a key lives after its last call: 1 to 4294967295. */
+    size_t upload;     /* U, the length of one piece of the upload memory: 16 to 65536. The memory is 16 * U long. */
+    size_t response;   /* V, the length of one piece of the response memory: 16 to 65536. The memory is 16 * V long. */
+};
+
+/* A key's bytes and their number. Bytes past the length are never compared. */
+struct block_handler_key {
+    uint8_t bytes[64];
+    uint8_t len;
+};
+
+/* What is assembled of an upload: its length, and the exponent of the last block taken. */
+struct block_handler_assembled {
+    uint32_t len;
+    uint8_t exponent;
+};
+
+/* The cached response: whether there is one, and the lengths of its head and payload in the response piece. */
+struct block_handler_cached {
+    bool held;
+    uint8_t head;
+    uint32_t payload;
+};
+
+/* A block value, or none: then all of it is 0. Its size is 16 << exponent. */
+struct block_handler_block {
+    bool given;
+    bool more;
+    uint8_t exponent;
+    uint32_t num;
+};
+
+/* One key's state. */
+struct block_handler_state {
+    struct block_handler_assembled assembled;
+    struct block_handler_cached cached;
+    struct block_handler_block recorded; /* The Block2 value of the key's last request. */
+};
+
+/* One entry: free (all zeros), or in use for its key, last touched at this time. */
+struct block_handler_entry {
+    struct block_handler_key key;
+    bool used;
+    uint64_t touched;
+    struct block_handler_state state;
+};
+
+/* The table: the time of the last call that changed it, and the entries. Start from block_handler_fresh(). */
+struct block_handler_table {
+    uint64_t clock;
+    struct block_handler_entry entries[BLOCK_HANDLER_ENTRIES];
+};
+
+/* The bytes from..to. */
+struct block_handler_part {
+    size_t from;
+    size_t to;
+};
+
+/* What a call answers. */
+enum block_handler_kind {
+    BLOCK_HANDLER_REFUSED = 0,   /* See `refusal`. */
+    BLOCK_HANDLER_CONTINUE = 1,  /* Send 2.31 with block1. */
+    BLOCK_HANDLER_TOO_LARGE = 2, /* Send 4.13 with block1. */
+    BLOCK_HANDLER_HANDED = 3,    /* To the application, with the whole body; its response gets block1. */
+    BLOCK_HANDLER_PASS = 4,      /* To the application, with the message's own payload. */
+    BLOCK_HANDLER_SERVED = 5,    /* Send the cached head and chunk, with block2, and block1 if it is given. */
+    BLOCK_HANDLER_PLAIN = 6,     /* Send the response as it is. */
+    BLOCK_HANDLER_WHOLE = 7,     /* Send the response with block2 and its chunk: its last. */
+    BLOCK_HANDLER_FIRST = 8      /* Send the response with block2 and its chunk: the rest is cached. */
+};
+
+/* An answer in numbers. */
+struct block_handler_reply {
+    uint8_t kind;    /* An enum block_handler_kind. */
+    uint8_t refusal; /* 1 to 10 for a refusal, else 0. */
+    uint8_t code;    /* The response code in one byte, class * 32 + detail, of an answer that has one; else 0. */
+    struct block_handler_block block1;
+    struct block_handler_block block2;
+    struct block_handler_part part; /* Handed: of the upload memory. Served: of the response memory. Whole, First: of the payload. */
+    struct block_handler_part head; /* Served: of the response memory. */
+};
+
+/* Where bytes stand that an answer shows: from..to of the message's payload (place 1) or of the memory (place 2). Place 0: no
+ * bytes, since the answer has none or names a part that is not there. from <= to <= the length of what it is a part of. */
+struct block_handler_found {
+    uint8_t place;
+    size_t from;
+    size_t to;
+};
+
+/* An option's bytes: the first len of them. */
+struct block_handler_option {
+    size_t len;
+    uint8_t bytes[2];
+};
+
+BLOCK_HANDLER_ASSERT(sizeof(bool) == 1 && sizeof(size_t) == 8);
+BLOCK_HANDLER_ASSERT(sizeof(struct block_handler_config) == 40);
+BLOCK_HANDLER_ASSERT(offsetof(struct block_handler_config, limit) == 8);
+BLOCK_HANDLER_ASSERT(offsetof(struct block_handler_config, lifetime) == 16);
+BLOCK_HANDLER_ASSERT(offsetof(struct block_handler_config, upload) == 24);
+BLOCK_HANDLER_ASSERT(offsetof(struct block_handler_config, response) == 32);
+BLOCK_HANDLER_ASSERT(sizeof(struct block_handler_key) == 65);
+BLOCK_HANDLER_ASSERT(sizeof(struct block_handler_assembled) == 8);
+BLOCK_HANDLER_ASSERT(sizeof(struct block_handler_cached) == 8);
+BLOCK_HANDLER_ASSERT(offsetof(struct block_handler_cached, payload) == 4);
+BLOCK_HANDLER_ASSERT(sizeof(struct block_handler_block) == 8);
+BLOCK_HANDLER_ASSERT(offsetof(struct block_handler_block, num) == 4);
+BLOCK_HANDLER_ASSERT(sizeof(struct block_handler_state) == 24);
+BLOCK_HANDLER_ASSERT(sizeof(struct block_handler_entry) == 104);
+BLOCK_HANDLER_ASSERT(offsetof(struct block_handler_entry, used) == 65);
+BLOCK_HANDLER_ASSERT(offsetof(struct block_handler_entry, touched) == 72);
+BLOCK_HANDLER_ASSERT(offsetof(struct block_handler_entry, state) == 80);
+BLOCK_HANDLER_ASSERT(sizeof(struct block_handler_table) == 1672);
+BLOCK_HANDLER_ASSERT(offsetof(struct block_handler_table, entries) == 8);
+BLOCK_HANDLER_ASSERT(sizeof(struct block_handler_reply) == 56);
+BLOCK_HANDLER_ASSERT(offsetof(struct block_handler_reply, block1) == 4);
+BLOCK_HANDLER_ASSERT(offsetof(struct block_handler_reply, block2) == 12);
+BLOCK_HANDLER_ASSERT(offsetof(struct block_handler_reply, part) == 24);
+BLOCK_HANDLER_ASSERT(offsetof(struct block_handler_reply, head) == 40);
+BLOCK_HANDLER_ASSERT(sizeof(struct block_handler_found) == 24);
+BLOCK_HANDLER_ASSERT(offsetof(struct block_handler_found, from) == 8);
+BLOCK_HANDLER_ASSERT(sizeof(struct block_handler_option) == 16);
+BLOCK_HANDLER_ASSERT(offsetof(struct block_handler_option, bytes) == 8);
+
+/* The Rust's defaults (T 1152, two minutes), for pieces of these sizes. */
+struct block_handler_config block_handler_default_config(bool strict, size_t upload, size_t response);
+
+/* An empty table with clock 0. */
+struct block_handler_table block_handler_fresh(void);
+
+/* The block value of an option's bytes. More than two bytes cannot be read, which counts as none. */
+struct block_handler_block block_handler_read(const uint8_t *option, size_t option_len);
+
+/* The option's bytes for a block value: the shortest form, num taken modulo 4096. */
+struct block_handler_option block_handler_write(uint32_t num, bool more, uint8_t exponent);
+
+/* A request, before the application sees it, at this time in milliseconds, under this key (1 to 64 bytes). `bare` is the length of
+ * the message encoded without its payload. given1 and given2 say whether it has a Block1 and a Block2 option; their bytes count
+ * only then. Changes the table and the key's piece of the upload memory; reads nothing of the response memory but its length. */
+struct block_handler_reply block_handler_request(
+    struct block_handler_table *table, struct block_handler_config config,
+    uint8_t *upload, size_t upload_len, const uint8_t *response, size_t response_len,
+    uint64_t time, const uint8_t *key, size_t key_len, size_t bare,
+    bool given1, const uint8_t *block1, size_t block1_len,
+    bool given2, const uint8_t *block2, size_t block2_len,
+    const uint8_t *payload, size_t payload_len);
+
+/* A response, before it is sent. `own` says that it has a Block2 option of its own; `head` is its encoded header and options, at most
+ * 128 bytes. Changes the table and the key's piece of the response memory; reads nothing of the upload memory but its length. */
+struct block_handler_reply block_handler_response(
+    struct block_handler_table *table, struct block_handler_config config,
+    const uint8_t *upload, size_t upload_len, uint8_t *response, size_t response_len,
+    uint64_t time, const uint8_t *key, size_t key_len, size_t bare, bool own,
+    const uint8_t *head, size_t head_len, const uint8_t *payload, size_t payload_len);
+
+/* The body that the application sees, of the request's payload (place 1) or of the upload memory (place 2). */
+struct block_handler_found block_handler_body(struct block_handler_reply reply, size_t payload_len, size_t upload_len);
+
+/* The head and the chunk of a Served answer, of the response memory. */
+struct block_handler_found block_handler_served_head(struct block_handler_reply reply, size_t response_len);
+struct block_handler_found block_handler_served_chunk(struct block_handler_reply reply, size_t response_len);
+
+/* What a response sends of its own payload: all of it (place 1), or its chunk (place 2). Both count from the payload's start. */
+struct block_handler_found block_handler_sent(struct block_handler_reply reply, size_t payload_len);
+
+/* ---- The same as bytes: a pointer into what was lent, and a length. Never a copy. */
+
+struct block_handler_bytes {
+    const uint8_t *at;
+    size_t len;
+};
+
+static inline struct block_handler_bytes block_handler_bytes_at(
+    struct block_handler_found found, const uint8_t *payload, const uint8_t *memory)
+{
+    struct block_handler_bytes bytes;
+    const uint8_t *of = found.place == 2 ? memory : payload;
+    bytes.at = found.place == 0 ? of : of + found.from;
+    bytes.len = found.place == 0 ? 0 : found.to - found.from;
+    return bytes;
+}
+
+static inline struct block_handler_bytes block_handler_body_bytes(
+    struct block_handler_reply reply, const uint8_t *payload, size_t payload_len, const uint8_t *upload, size_t upload_len)
+{
+    return block_handler_bytes_at(block_handler_body(reply, payload_len, upload_len), payload, upload);
+}
+
+static inline struct block_handler_bytes block_handler_served_head_bytes(
+    struct block_handler_reply reply, const uint8_t *response, size_t response_len)
+{
+    return block_handler_bytes_at(block_handler_served_head(reply, response_len), response, response);
+}
+
+static inline struct block_handler_bytes block_handler_served_chunk_bytes(
+    struct block_handler_reply reply, const uint8_t *response, size_t response_len)
+{
+    return block_handler_bytes_at(block_handler_served_chunk(reply, response_len), response, response);
+}
+
+static inline struct block_handler_bytes block_handler_sent_bytes(
+    struct block_handler_reply reply, const uint8_t *payload, size_t payload_len)
+{
+    return block_handler_bytes_at(block_handler_sent(reply, payload_len), payload, payload);
+}
+
+#ifdef __cplusplus
+}
+#endif
+
+#endif
