@@ -10,12 +10,8 @@ fn main() {
     let mut second = buffers::field();
     let mut payload = buffers::field();
     let mut out = buffers::output();
-    let begun = runner::start(&mut out);
-    let state = begun.state;
     let n = io::read_full(0, &mut text);
-    let rest = runner::run_lines(
-        false,
-        state,
+    let last = runner::run_script(
         &text[..n],
         &mut upload,
         &mut response,
@@ -24,22 +20,6 @@ fn main() {
         &mut second,
         &mut payload,
         &mut out,
-        begun.at,
-    );
-    let from = rest.from;
-    let left = rest.state;
-    let last = runner::run_last(
-        false,
-        left,
-        &text[from..n],
-        &mut upload,
-        &mut response,
-        &mut key,
-        &mut first,
-        &mut second,
-        &mut payload,
-        &mut out,
-        rest.at,
     );
     runner::print(&out, last.at);
 }

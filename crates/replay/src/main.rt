@@ -1,21 +1,25 @@
 // A script of any length on standard input, with lines that start afresh and lines that show the state.
 use runner::buffers;
 ghost use mathlib.Core.Path.{_≡_};
-ghost use Prim.Native.Nat.{_≤_, _<_};
-ghost use lib.ListN.{length};
+ghost use mathlib.Core.Bool.{cond};
+ghost use Prim.Native.Nat.{_-_, _≤_, _<_};
+ghost use lib.Dec.{eqb};
+ghost use lib.ListN.{length, take};
 
-// Reads on behind the bytes that are held; where that is the end, there is no more.
+// Reads on behind the bytes that are held, which stay; where the answer is no more than them, or a read failed, the input has ended.
 fn read_on(text: &mut [u8], held: usize) -> usize
     requires { ⌜ held ≤ length (now text) ⌝ }
     ensures { λ r. ⌜ (held ≤ r) × (r ≤ length (now (text .entry))) ⌝ }
+    ensures { λ _. ⌜ take held (now (text .exit)) ≡ take held (now (text .entry)) ⌝ }
 {
     let got = libc::read(0, &mut text[held..]);
     held + io::count(got, &text[held..])
 }
 
-// How often more is read at most: not at all where nothing came. A loop has to end, and nothing says that the input does: no run uses this up.
+// 0 once a read brings nothing; otherwise one fewer. It starts at 2^64 - 1 only so that the loop provably ends.
 fn turns_left(turns: u64, held: usize, end: usize) -> u64
     requires { ⌜ 0 < turns ⌝ }
+    ensures { λ r. ⌜ r ≡ cond (eqb end held) 0 (turns - 1) ⌝ }
     ensures { λ r. ⌜ r < turns ⌝ }
 {
     if end == held {

@@ -33,6 +33,6 @@ freshOf fs =
     (startOf (getD fs 0 []) (getD fs 1 []) (getD fs 2 []) (getD fs 3 []) (getD fs 4 []) (getD fs 5 []))
     Other
 
--- The line `S` shows the state; any line that is no fresh start either is not a control line.
+-- `S` shows the state; any other line is a fresh start, or no control line.
 unfoldable pub controlOf : Bytes → Control
 controlOf line = cond (same line (83 ∷ [])) Show (freshOf (fields line))

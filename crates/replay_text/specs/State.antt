@@ -40,7 +40,7 @@ wordText x = hex (wordBytes x)
 
 -- ---- an entry: INDEX,KEY,TOUCHED,ASSEMBLED,KEPT,CACHE,RECORDED
 
--- ASSEMBLED,KEPT
+-- ASSEMBLED,KEPT: a length, and the exponent that is kept (not a size).
 unfoldable pub assembledText : Assembled → Bytes
 assembledText a = decimal (a .len) ++ (44 ∷ decimal (a .exponent))
 

@@ -2,7 +2,7 @@
 use Prim.Native.Nat.{ℕ, _+_, _*_, _%_, _^_, min}
 use mathlib.Core.Path.{_≡_}
 use mathlib.Core.Bool.{Bool, false, cond}
-use mathlib.Core.List.{List, [], _∷_}
+use mathlib.Core.List.{List, [], _∷_, _++_}
 use lib.Dec.{ltb, eqb}
 use lib.ListN.{length, take, drop, replicate}
 use Rattle.block_state.specs.declared.Config.{Config}
@@ -38,8 +38,8 @@ freshWorld c = world freshTable (replicate (memoryOf (c .upload)) 0) (replicate 
 abbrev pub fresh : Config → ℕ → After
 fresh c n = record { config = c; world = freshWorld c; text = configText n }
 
-abbrev pub shown : Config → World → ℕ → After
-shown c w n = record { config = c; world = w; text = stateText n (w .table) (w .upload) (w .response) }
+abbrev pub stateShown : Config → World → ℕ → After
+stateShown c w n = record { config = c; world = w; text = stateText n (w .table) (w .upload) (w .response) }
 
 abbrev pub called : Config → World → ℕ → List ℕ → After
 called c w n l = record { config = c; world = worldAfter c w (lineOf l); text = textAfter c w n (lineOf l) }
@@ -47,10 +47,10 @@ called c w n l = record { config = c; world = worldAfter c w (lineOf l); text = 
 -- A replay's line: a fresh start, the state shown, or a line as a script has it.
 abbrev pub controlled : Control → Config → World → ℕ → List ℕ → After
 controlled (Fresh d) c w n l = fresh d n
-controlled Show c w n l = shown c w n
+controlled Show c w n l = stateShown c w n
 controlled Other c w n l = called c w n l
 
--- A line of more than 200,000 bytes is unreadable.
+-- A line of more than 200,000 bytes is unreadable; a script of 8 KiB has none.
 unfoldable pub lineRun : Bool → Config → World → ℕ → List ℕ → After
 lineRun replay c w n l =
     cond (ltb 200000 (length l)) (record { config = c; world = w; text = unreadableText n })
@@ -79,6 +79,17 @@ unfoldable pub afterLines : Bool → Standing → List (List ℕ) → Standing
 afterLines replay s [] = s
 afterLines replay s (l ∷ []) = s
 afterLines replay s (l ∷ m ∷ ls) = afterLines replay (afterLine replay s l) (m ∷ ls)
+
+-- What waits to be written after a line: its text behind what waited. More than 65,536 bytes are written at once, and nothing waits.
+unfoldable pub waitsAfter : List ℕ → List ℕ → List ℕ
+waitsAfter waiting text = cond (ltb 65536 (length (waiting ++ text))) [] (waiting ++ text)
+
+-- What waits after each line that has ended.
+unfoldable pub waitsAfterLines : Bool → Standing → List ℕ → List (List ℕ) → List ℕ
+waitsAfterLines replay s waiting [] = waiting
+waitsAfterLines replay s waiting (l ∷ []) = waiting
+waitsAfterLines replay s waiting (l ∷ m ∷ ls) =
+    waitsAfterLines replay (afterLine replay s l) (waitsAfter waiting (nextLine replay s l .text)) (m ∷ ls)
 
 -- The last one, which has not ended.
 unfoldable pub lastOf : List (List ℕ) → List ℕ
@@ -109,6 +120,16 @@ scriptConfig = record { strict = false; limit = 64; lifetime = 120000; upload = 
 
 abbrev pub begun : State
 begun = record { config = scriptConfig; table = freshTable; number = 0 }
+
+-- ---- a whole script
+
+-- What a script of this text leaves, and what waits to be written at its end.
+unfoldable pub afterScript : Standing → List ℕ → Standing
+afterScript s text = afterLast false (afterLines false s (cutAt 10 text)) (unended text)
+
+unfoldable pub waitsAfterScript : Standing → List ℕ → List ℕ
+waitsAfterScript s text =
+    waitsAfterLines false s header (cutAt 10 text) ++ lastText false (afterLines false s (cutAt 10 text)) (unended text)
 
 -- ---- what the code lends: of each memory, as much as the configuration has
 

@@ -2,7 +2,7 @@
 ghost use mathlib.Core.Path.{_≡_};
 ghost use lib.ListN.{length, replicate};
 
-// A line that has not ended, and as much again as is read at once.
+// 200,001 bytes of a line that has not ended, and room for 65,536 more.
 pub fn text() -> [u8; 265537]
     ensures { λ r. ⌜ r ≡ replicate 265537 0 ⌝ }
     ensures { λ r. ⌜ 265537 ≡ length r ⌝ }

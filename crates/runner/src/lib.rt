@@ -10,6 +10,7 @@ pub use lines::keep;
 pub use lines::print;
 pub use lines::run_last;
 pub use lines::run_lines;
+pub use lines::run_script;
 pub use lines::start;
 
 // Where the script stands: the configuration, the table, and the number of the last line.

@@ -7,7 +7,7 @@ ghost use mathlib.Core.Path.{_≡_};
 ghost use Prim.Native.Nat.{_+_, _*_, _≤_};
 ghost use lib.ListN.{length};
 ghost use Rattle.script_text.specs.Text.{Put};
-ghost use Rattle.runner.specs.Lines.{fresh, shown, called, controlled, lineRun, worldIn, Leaves};
+ghost use Rattle.runner.specs.Lines.{fresh, stateShown, called, controlled, lineRun, worldIn, Leaves};
 
 // A fresh start: an empty table, and memories of zeros.
 fn begin(
@@ -97,7 +97,7 @@ fn show<'a>(state: State, upload: &'a [u8], response: &'a [u8], out: &mut [u8], 
     requires { ⌜ (1048576 ≤ length (now upload)) × (1048576 ≤ length (now response)) ⌝ }
     requires { ⌜ at + 2 * 1048576 + 200 ≤ length (now out) ⌝ }
     ensures { λ r. ⌜ r .state ≡ state ⌝ }
-    ensures { λ r. ⌜ Put (now (out .entry)) at (shown (state .config) (worldIn (state .config) (state .table) (now (upload .entry)) (now (response .entry))) (state .number) .text) (now (out .exit)) (r .at) ⌝ }
+    ensures { λ r. ⌜ Put (now (out .entry)) at (stateShown (state .config) (worldIn (state .config) (state .table) (now (upload .entry)) (now (response .entry))) (state .number) .text) (now (out .exit)) (r .at) ⌝ }
     ensures { λ r. ⌜ r .at ≤ at + 2 * 1048576 + 200 ⌝ }
 {
     let config = state.config;
@@ -108,7 +108,7 @@ fn show<'a>(state: State, upload: &'a [u8], response: &'a [u8], out: &mut [u8], 
     Step { state, at: next }
 }
 
-// A line that has ended, with its number.
+// A line without its end; its number is counted already.
 pub fn run_any(
     replay: bool,
     state: State,

@@ -6,11 +6,13 @@ use crate::line;
 use block_state::Config;
 ghost use mathlib.Core.Path.{_≡_};
 ghost use Prim.Native.Nat.{_+_, _-_, _%_, _^_, _≤_, min};
-ghost use lib.ListN.{length, drop};
+ghost use mathlib.Core.Bool.{cond};
+ghost use lib.Dec.{ltb};
+ghost use lib.ListN.{length, take, drop};
 ghost use Rattle.pieces.specs.Memory.{patch, part};
 ghost use Rattle.script.specs.Line.{cutAt};
 ghost use Rattle.script_text.specs.Text.{Put};
-ghost use Rattle.runner.specs.Lines.{scriptConfig, header, begun, afterLines, afterLast, lastText, unended, standing};
+ghost use Rattle.runner.specs.Lines.{scriptConfig, header, begun, afterLines, waitsAfterLines, afterLast, lastText, unended, standing, afterScript, waitsAfterScript};
 
 // Output that is written at once.
 const MUCH: usize = 65536;
@@ -73,7 +75,7 @@ pub fn print(out: &[u8], at: usize)
 // Writes what waits, once it is much.
 fn flushed(out: &[u8], at: usize) -> usize
     requires { ⌜ at ≤ length (now out) ⌝ }
-    ensures { λ r. ⌜ r ≤ 65536 ⌝ }
+    ensures { λ r. ⌜ r ≡ cond (ltb 65536 at) 0 at ⌝ }
 {
     if at <= MUCH {
         return at;
@@ -100,6 +102,7 @@ pub fn run_lines(
     requires { ⌜ (1048576 ≤ length (now upload)) × (1048576 ≤ length (now response)) ⌝ }
     requires { ⌜ (at ≤ 65536) × (2200000 ≤ length (now out)) ⌝ }
     ensures { λ r. ⌜ standing (r .state) (now (upload .exit)) (now (response .exit)) ≡ afterLines replay (standing state (now (upload .entry)) (now (response .entry))) (cutAt 10 (now (text .entry))) ⌝ }
+    ensures { λ r. ⌜ take (r .at) (now (out .exit)) ≡ waitsAfterLines replay (standing state (now (upload .entry)) (now (response .entry))) (take at (now (out .entry))) (cutAt 10 (now (text .entry))) ⌝ }
     ensures { λ r. ⌜ (r .from ≤ length (now (text .entry))) × (drop (r .from) (now (text .entry)) ≡ unended (now (text .entry))) ⌝ }
     ensures { λ r. ⌜ r .at ≤ 65536 ⌝ }
 {
@@ -169,6 +172,56 @@ pub fn run_last(
         payload,
         out,
         at,
+    )
+}
+
+// A whole script, from its start on: what is left of its output waits.
+pub fn run_script(
+    text: &[u8],
+    upload: &mut [u8],
+    response: &mut [u8],
+    key: &mut [u8],
+    first: &mut [u8],
+    second: &mut [u8],
+    payload: &mut [u8],
+    out: &mut [u8],
+) -> Step
+    requires { ⌜ (length (now key) ≡ 100000) × (length (now first) ≡ 100000) × (length (now second) ≡ 100000) × (length (now payload) ≡ 100000) ⌝ }
+    requires { ⌜ (1048576 ≤ length (now upload)) × (1048576 ≤ length (now response)) ⌝ }
+    requires { ⌜ 2200000 ≤ length (now out) ⌝ }
+    ensures { λ r. ⌜ standing (r .state) (now (upload .exit)) (now (response .exit)) ≡ afterScript (standing begun (now (upload .entry)) (now (response .entry))) (now (text .entry)) ⌝ }
+    ensures { λ r. ⌜ take (r .at) (now (out .exit)) ≡ waitsAfterScript (standing begun (now (upload .entry)) (now (response .entry))) (now (text .entry)) ⌝ }
+    ensures { λ r. ⌜ r .at ≤ 2200000 ⌝ }
+{
+    let begin = start(out);
+    let first_state = begin.state;
+    let rest = run_lines(
+        false,
+        first_state,
+        text,
+        upload,
+        response,
+        key,
+        first,
+        second,
+        payload,
+        out,
+        begin.at,
+    );
+    let from = rest.from;
+    let left = rest.state;
+    run_last(
+        false,
+        left,
+        &text[from..],
+        upload,
+        response,
+        key,
+        first,
+        second,
+        payload,
+        out,
+        rest.at,
     )
 }
 

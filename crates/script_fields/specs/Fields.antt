@@ -1,4 +1,5 @@
--- The fields of a script line, as lists of bytes: which texts are read, and what each says.
+-- The fields of a script line, as lists of bytes: which texts are read, and what each says. What a text says (`value`, `pairsOf`,
+-- `bytesOf`, `optionBytes`) counts only where it is read (`isNumber`, `isPairs`, `isBytes`, `isOption`).
 use Prim.Native.Nat.{ℕ, _+_, _-_, _*_, _^_, _≤_}
 use mathlib.Core.Path.{_≡_}
 use mathlib.Core.Bool.{Bool, true, false, cond, not, _&&_, _||_}

@@ -25,7 +25,7 @@ turns-left-requires : tie.Need-turns-left-requires Inv-loop μ-loop
 turns-left-requires c κs = search needs
 
 loop-holds : tie.Need-loop-holds Inv-loop μ-loop
-loop-holds c = ((refl, refl, refl, refl, refl, refl, refl, refl), (omega arith, omega (arith, c .before .before .before .read-on .ensures .1, c .before .before .before .read-on .kept), c .before .before .before .before .before .before .before .before .start .ensures .1 .1))
+loop-holds c = ((refl, refl, refl, refl, refl, refl, refl, refl), (omega arith, omega (arith, c .before .before .before .read-on .ensures .0 .1, c .before .before .before .read-on .kept), c .before .before .before .before .before .before .before .before .start .ensures .1 .1))
 
 sub-run-lines : tie.Need-sub-run-lines Inv-loop μ-loop
 sub-run-lines c = search needs
@@ -44,7 +44,7 @@ run-lines-requires c κs =
 
 keep-requires : tie.Need-keep-requires Inv-loop μ-loop
 keep-requires c κs =
-    let f = simp (length-take, length-drop) at (c .before .before .before .before .before .before .before .before .before .before .before .before .before .before .before .before .run-lines .ensures .1 .0 .0) in
+    let f = simp (length-take, length-drop) at (c .before .before .before .before .before .before .before .before .before .before .before .before .before .before .before .before .run-lines .ensures .1 .1 .0 .0) in
     (omega (arith, f), c .before .before .before .before .before .before .before .before .before .before .before .before .before .before .before .before .before .before .before .before .before .before .before .before .before .before .before .loop .inv .1 .1)
 
 read-on-requires-2 : tie.Need-read-on-requires-2 Inv-loop μ-loop
@@ -54,14 +54,14 @@ turns-left-requires-2 : tie.Need-turns-left-requires-2 Inv-loop μ-loop
 turns-left-requires-2 c κs = c .before .before .before .before .before .before .before .before .before .before .before .before .before .before .before .before .before .before .before .before .before .before .before .before .before .before .before .before .before .before .before .before .before .loop-test .taken
 
 loop-less : tie.Need-loop-less Inv-loop μ-loop
-loop-less c = c .turns-left2 .ensures
+loop-less c = c .turns-left2 .ensures .1
 
 loop-again : tie.Need-loop-again Inv-loop μ-loop
 loop-again c =
     let i = c .before .before .before .before .before .before .before .before .before .before .before .before .before .before .before .before .before .before .before .before .before .before .before .before .before .before .before .before .before .before .before .before .before .before .before .loop .inv in
     let k = c .before .before .before .before .before .before .before .before .before .before .before .before .before .before .before .before .before .before .before .before .before .before .before .before .run-lines .kept in (
       (omega (arith, c .before .before .before .before .before .before .before .keep .kept, c .before .before .before .read-on2 .kept, i .0), omega (arith, k, i .0), omega (arith, k, i .0), omega (arith, k, i .0), omega (arith, k, i .0), omega (arith, k, i .0), omega (arith, k, i .0), omega (arith, k, i .0)),
-      (omega (arith, c .before .before .before .before .before .before .before .keep .ensures .0), omega (arith, c .before .before .before .read-on2 .ensures .1, c .before .before .before .read-on2 .kept), c .before .before .before .before .before .before .before .before .before .before .before .before .before .before .before .before .before .before .before .before .before .before .before .before .run-lines .ensures .1 .1),
+      (omega (arith, c .before .before .before .before .before .before .before .keep .ensures .0), omega (arith, c .before .before .before .read-on2 .ensures .0 .1, c .before .before .before .read-on2 .kept), c .before .before .before .before .before .before .before .before .before .before .before .before .before .before .before .before .before .before .before .before .before .before .before .before .run-lines .ensures .1 .1 .1),
     )
 
 sub-run-last : tie.Need-sub-run-last Inv-loop μ-loop
