@@ -326,7 +326,8 @@ pub fn swept_entry(e: Entry, lifetime: u64, time: u64) -> Entry
 fn is_expired(used: bool, touched: u64, lifetime: u64, time: u64) -> bool
     ensures { λ r. ⌜ r ≡ (used && not (ltb (time - touched) lifetime)) ⌝ }
 {
-    used & !(age(touched, time) < lifetime)
+    let idle = age(touched, time);
+    used & !(idle < lifetime)
 }
 
 // A sweep would free nothing that is in use.
