@@ -1,7 +1,7 @@
 -- The verdict by its cases, and what a place tells. Assumes nothing.
 use Prim.Native.Nat.{ℕ, _+_, _*_, _≤_, _<_}
 use mathlib.Core.Path.{_≡_, refl, sym}
-use mathlib.Core.Bool.{Bool, true, false, cond}
+use mathlib.Core.Bool.{Bool, true, false, cond, not}
 use mathlib.Core.List.{List}
 use native.Mathlib.Omega.{arith}
 use lib.ListN.{length}
@@ -9,11 +9,14 @@ use lib.Dec.{leb, ltb}
 use borrow.Author.Tests.{ltb-false, leb-true, leb-false, eqb-true, lt-ltb, le-ltb, le-leb, lt-leb}
 use Rattle.pieces.proofs.Memory.{piece-order}
 use Rattle.block_state.specs.declared.Config.{Config}
-use Rattle.block_state.proofs.Tests.{ands, by-cases}
+use Rattle.block_state.proofs.Tests.{ands, and-left, by-cases}
 use Rattle.block_state.proofs.Fits.{assembled-most}
 use Rattle.block_table.specs.declared.Table.{Table}
 use Rattle.block_table.specs.Keys.{keyOk}
-use Rattle.block_table.specs.Table.{tableOk, sweep, place, opened}
+use Rattle.block_table.specs.Table.{tableOk, entryOk, distinct, sweep, place, opened}
+use Rattle.block_table.specs.Lists.{all}
+use Rattle.block_table.specs.Quick.{sized, unexpired}
+use Rattle.block_table.proofs.Turns.{sweep-kept}
 use Rattle.block_table.proofs.TableFits.{table-fits, opened-fits}
 use Rattle.block_handler.specs.declared.Verdict.{Verdict}
 use Rattle.block_handler.specs.declared.Verdict.the-variants.{Refused, Place}
@@ -34,6 +37,13 @@ config-fits c h =
       upload = leb-true (c .upload) 65536 (search ands);
       response = leb-true (c .response) 65536 (search ands);
     }
+
+pub no-place : (n i : ℕ) → Refused n ≡ Place i → ⊥
+no-place n i e = let no : _≡_ {A = ℕ} 0 1 = cc in omega arith
+
+each-within : (c : Config) (t : Table) → tableOk c t ≡ true → all (entryOk c (t .clock)) (t .entries) ≡ true
+unfolding tableOk
+each-within c t h = and-left (all (entryOk c (t .clock)) (t .entries)) (distinct (t .entries)) h
 
 pub key-short : (k : List ℕ) → keyOk k ≡ true → length k ≤ 64
 unfolding keyOk
@@ -138,6 +148,9 @@ pub record AtPlace (c : Config) (t : Table) (u v time : ℕ) (key : List ℕ) (h
   pub down : i * c .response + c .response ≤ v
   pub small : u + v ≤ 2097152
   -- what is assembled lies in its piece
+  -- the row is as a sweep would leave it, or has to be swept
+  pub kept : (b : Bool) → all sized (t .entries) ≡ true → all (unexpired (c .lifetime) time) (t .entries) ≡ b
+      → cond (not b) (sweep (c .lifetime) time (t .entries)) (t .entries) ≡ sweep (c .lifetime) time (t .entries)
   pub holds : length (t .entries) ≡ 16 → opened key (sweep (c .lifetime) time (t .entries)) .state .assembled .len ≤ c .upload
 
 pub at-place : (c : Config) (t : Table) (u v time : ℕ) (key : List ℕ) (bare payload head i : ℕ) → verdictOf c t u v time key bare payload head ≡ Place i
@@ -157,5 +170,6 @@ at-place c t u v time key bare payload head i h =
       up = omega (arith, piece-order i 16 (c .upload) (p .below));
       down = omega (arith, piece-order i 16 (c .response) (p .below));
       small = omega arith;
+      kept = λ b. sweep-kept c (t .clock) (c .lifetime) time (t .entries) b (each-within c t (search ands));
       holds = λ sixteen. assembled-most c _ (opened-fits c t time (table-fits c t (search ands)) sixteen (p .clock) key (search ands) (rw (← (p .is)) (p .below)) .state .assembled);
     }

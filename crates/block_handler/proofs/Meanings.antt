@@ -20,9 +20,7 @@ use Rattle.block_table.specs.declared.Entry.{Entry}
 use Rattle.block_table.specs.declared.Table.{Table}
 use Rattle.block_table.specs.Keys.{stored}
 use Rattle.block_table.specs.declared.Key.{Key}
-use Rattle.block_table.specs.Lists.{all}
-use Rattle.block_table.specs.Table.{inUse, live, swept, sweep, place, at, opened}
-use Rattle.block_table.proofs.Turns.{sweep-kept}
+use Rattle.block_table.specs.Table.{inUse, swept, sweep, place, at, opened}
 use Rattle.block_table.proofs.Entries.{at-sweep}
 use Rattle.block_handler.specs.declared.Verdict.{Verdict}
 use Rattle.block_handler.specs.declared.Verdict.the-variants as verdict
@@ -93,10 +91,10 @@ set-own (x ∷ l) (suc i) = ap (λ (r : List Entry). x ∷ r) (set-own l i)
 pub stays : (t : Table) (e : Entry) → e ≡ at (t .entries) 0 → _≡_ {A = Table} (record { clock = t .clock; entries = set (t .entries) 0 e }) t
 stays t e h = λ k. record { clock = t .clock; entries = (ap (set (t .entries) 0) h ∙ set-own (t .entries) 0) k }
 
--- one entry put into the swept row, which is the row itself where all are live
-pub after : (lifetime time : ℕ) (l : List Entry) (b : Bool) (i : ℕ) (e : Entry) (key : Key) (s : BlockState) → b ≡ all (live lifetime time) l → e ≡ inUse key time s
-    → _≡_ {A = Table} (record { clock = time; entries = set (cond (not b) (sweep lifetime time l) l) i e }) (tableAfter (sweep lifetime time l) time i key s)
-after lifetime time l b i e key s live-is entry-is = λ k. record { clock = time; entries = set (sweep-kept lifetime time l b (sym live-is) k) i (entry-is k) }
+-- one entry put into the swept row, which may be the row itself
+pub after : (time : ℕ) (row l : List Entry) (i : ℕ) (e : Entry) (key : Key) (s : BlockState) → row ≡ l → e ≡ inUse key time s
+    → _≡_ {A = Table} (record { clock = time; entries = set row i e }) (tableAfter l time i key s)
+after time row l i e key s row-is entry-is = λ k. record { clock = time; entries = set (row-is k) i (entry-is k) }
 
 -- ---- a piece that was lent
 

@@ -10,12 +10,15 @@ use block_table::Entry;
 use block_table::Key;
 use block_table::Table;
 ghost use mathlib.Core.Path.{_≡_};
+ghost use mathlib.Core.Bool.{true};
 ghost use mathlib.Core.List.{List};
 ghost use Prim.Native.Nat.{ℕ, _<_};
 ghost use lib.ListN.{length};
 ghost use Rattle.block_state.specs.Message.{request};
 ghost use Rattle.block_state.specs.Contract.{asking, replying};
+ghost use Rattle.block_table.specs.Lists.{all};
 ghost use Rattle.block_table.specs.Table.{inUse, sweep, opened};
+ghost use Rattle.block_table.specs.Quick.{sized};
 ghost use Rattle.block_handler.specs.Call.{done, callAt};
 ghost use Rattle.block_handler.specs.Verdict.{verdictOf};
 ghost use Rattle.block_handler.specs.Contract.{world, requestCall, responseCall, Meant, changed};
@@ -64,7 +67,7 @@ fn request_at<'a>(
     block2: &'a [u8],
     payload: &'a [u8],
 ) -> Change
-    requires { ⌜ verdictOf config table (length (now upload)) v time (now key) bare (length (now payload)) 0 ≡ Verdict.Place i ⌝ }
+    requires { ⌜ (verdictOf config table (length (now upload)) v time (now key) bare (length (now payload)) 0 ≡ Verdict.Place i) × (all sized (table .entries) ≡ true) ⌝ }
     ensures { λ r. ⌜ ((d : List ℕ) → done (world (changed (config .lifetime) time table r) (now (upload .exit)) d) (r .answer) ≡ callAt config (world table (now (upload .entry)) d) time (sweep (config .lifetime) time (table .entries)) i (opened (now (key .entry)) (sweep (config .lifetime) time (table .entries))) (request (asking bare given1 (now (block1 .entry)) given2 (now (block2 .entry)) (now (payload .entry))))) × (r .at ≡ i) ⌝ }
 {
     let entries = table.entries;
@@ -90,7 +93,7 @@ fn request_at<'a>(
     let stored = e.key;
     let left = step.state;
     let entry = touched(stored, time, left);
-    let freed = !block_table::all_live(entries, config.lifetime, time);
+    let freed = !block_table::none_expired(entries, config.lifetime, time);
     let answer = step.answer;
     Change {
         freed,
@@ -115,7 +118,7 @@ fn response_at<'a>(
     head: &'a [u8],
     payload: &'a [u8],
 ) -> Change
-    requires { ⌜ verdictOf config table u (length (now response)) time (now key) bare (length (now payload)) (length (now head)) ≡ Verdict.Place i ⌝ }
+    requires { ⌜ (verdictOf config table u (length (now response)) time (now key) bare (length (now payload)) (length (now head)) ≡ Verdict.Place i) × (all sized (table .entries) ≡ true) ⌝ }
     ensures { λ r. ⌜ ((m : List ℕ) → done (world (changed (config .lifetime) time table r) m (now (response .exit))) (r .answer) ≡ callAt config (world table m (now (response .entry))) time (sweep (config .lifetime) time (table .entries)) i (opened (now (key .entry)) (sweep (config .lifetime) time (table .entries))) (Rattle.block_state.specs.Message.response (replying bare own (now (head .entry)) (now (payload .entry))))) × (r .at ≡ i) ⌝ }
 {
     let entries = table.entries;
@@ -136,7 +139,7 @@ fn response_at<'a>(
     let stored = e.key;
     let left = step.state;
     let entry = touched(stored, time, left);
-    let freed = !block_table::all_live(entries, config.lifetime, time);
+    let freed = !block_table::none_expired(entries, config.lifetime, time);
     let answer = step.answer;
     Change {
         freed,

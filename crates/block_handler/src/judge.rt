@@ -3,7 +3,10 @@ use crate::Verdict;
 use block_state::Config;
 use block_table::Table;
 ghost use mathlib.Core.Path.{_≡_};
-ghost use Prim.Native.Nat.{_≤_};
+ghost use mathlib.Core.Bool.{true};
+ghost use Prim.Native.Nat.{ℕ, _≤_};
+ghost use Rattle.block_table.specs.Lists.{all};
+ghost use Rattle.block_table.specs.Quick.{sized};
 ghost use Rattle.block_handler.specs.Call.{between, configOk, memoriesOk};
 ghost use Rattle.block_handler.specs.Verdict.{messageOk, verdictOf};
 
@@ -53,7 +56,7 @@ pub fn judge(
     payload: usize,
     head: usize,
 ) -> Verdict
-    ensures { λ r. ⌜ r ≡ verdictOf config table u v time (now (key .entry)) bare payload head ⌝ }
+    ensures { λ r. ⌜ (r ≡ verdictOf config table u v time (now (key .entry)) bare payload head) × ((i : ℕ) → r ≡ Verdict.Place i → all sized (table .entries) ≡ true) ⌝ }
 {
     if !config_ok(config) {
         return Verdict::Refused(1);

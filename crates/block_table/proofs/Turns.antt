@@ -1,5 +1,5 @@
 -- The laws that the code's loops use: what one turn takes off the front of what is left; and those of its branches, by their cases. Assumes nothing.
-use mathlib.Core.Path.{_≡_, refl, sym, ap, ap₂}
+use mathlib.Core.Path.{_≡_, refl, sym, ap, ap₂, _∙_}
 use mathlib.Core.List.{List, [], _∷_, _++_, map}
 use mathlib.Core.Bool.{Bool, true, false, not, cond, _&&_, and-false}
 use Prim.Native.Nat.{ℕ, suc, zero, _+_, _-_, _≤_, _<_}
@@ -9,15 +9,17 @@ use lib.ListN.{length, getD, take, drop, set, replicate, drop-of-length-le}
 use lib.Seq.{drop-cons, drop-set-lt, take-suc-set, take-suc, append-snoc, set-at, length-take-le}
 use lib.Dec.{eqb, ltb}
 use borrow.Author.Tests.{eq-eqb, ne-eqb, eqb-true, eqb-false, lt-ltb, le-ltb}
-use Rattle.block_state.specs.State.{nothing}
+use Rattle.block_state.specs.declared.Config.{Config}
+use Rattle.block_state.specs.declared.BlockState.{BlockState}
+use Rattle.block_state.specs.State.{nothing, isNothing}
 use Rattle.block_table.specs.declared.Key.{Key}
 use Rattle.block_table.specs.declared.Entry.{Entry}
 use Rattle.block_table.specs.Lists.{find, all}
-use Rattle.block_table.specs.Keys.{same, keyOf}
-use Rattle.block_table.specs.Table.{free, holds, live, swept, sweep, unused, place}
-use Rattle.block_table.proofs.Entries.{live-used, swept-live}
-use Rattle.block_state.proofs.Tests.{and-left, and-right}
-use Rattle.block_table.specs.Quick.{holdsLive, notLive}
+use Rattle.block_table.specs.Keys.{same, keyOf, isNoKey}
+use Rattle.block_table.specs.Table.{free, holds, live, swept, sweep, unused, place, entryOk}
+use Rattle.block_table.proofs.Entries.{live-used, swept-live, swept-dead}
+use Rattle.block_state.proofs.Tests.{and-left, and-right, ands}
+use Rattle.block_table.specs.Quick.{holdsLive, notLive, sized, unexpired}
 
 -- What an index past the end of a row reads, as Rattle has it. Below the length it does not matter.
 abbrev pub nil : Entry
@@ -138,16 +140,68 @@ module _ (lifetime time : ℕ) (k : List ℕ) (e : Entry) where
   unfolding holdsLive
   held-as b h s = rw (h, s)
 
--- where all are live a sweep frees nothing
-swept-all : (lifetime time : ℕ) (l : List Entry) → all (live lifetime time) l ≡ true → map (swept lifetime time) l ≡ l
-swept-all lifetime time [] h = refl
-swept-all lifetime time (e ∷ rest) h =
-    ap₂ _∷_ (swept-live lifetime time e (and-left (live lifetime time e) (all (live lifetime time) rest) h)) (swept-all lifetime time rest (and-right (live lifetime time e) (all (live lifetime time) rest) h))
+-- an entry that is not expired, by what the code tests
+pub unexpired-as : (lifetime time : ℕ) (e : Entry) (b : Bool) → b ≡ (e .used && not (ltb (time - e .touched) lifetime)) → unexpired lifetime time e ≡ not b
+unfolding unexpired
+unexpired-as lifetime time e b h = ap not (sym h)
 
-pub sweep-kept : (lifetime time : ℕ) (l : List Entry) (b : Bool) → all (live lifetime time) l ≡ b → cond (not b) (sweep lifetime time l) l ≡ sweep lifetime time l
-unfolding sweep
-sweep-kept lifetime time l true h = sym (swept-all lifetime time l h)
-sweep-kept lifetime time l false h = refl
+zeros : (l : List ℕ) → all (λ b. eqb b 0) l ≡ true → l ≡ replicate (length l) 0
+zeros [] h = refl
+zeros (x ∷ l) h = ap₂ _∷_ (eqb-true x 0 (and-left (eqb x 0) (all (λ b. eqb b 0) l) h)) (zeros l (and-right (eqb x 0) (all (λ b. eqb b 0) l) h))
+
+no : (b : Bool) → not b ≡ true → b ≡ false
+no true h = sym h
+no false h = refl
+
+nothing-is : (s : BlockState) → isNothing s ≡ true → s ≡ nothing
+unfolding isNothing
+nothing-is s h = λ k. record {
+  assembled = record { len = eqb-true (s .assembled .len) 0 (search ands depth 12) k; exponent = eqb-true (s .assembled .exponent) 0 (search ands depth 12) k };
+  cached = record { held = no (s .cached .held) (search ands depth 12) k; head = eqb-true (s .cached .head) 0 (search ands depth 12) k; payload = eqb-true (s .cached .payload) 0 (search ands depth 12) k };
+  recorded = record { given = no (s .recorded .given) (search ands depth 12) k; more = no (s .recorded .more) (search ands depth 12) k; exponent = eqb-true (s .recorded .exponent) 0 (search ands depth 12) k; num = eqb-true (s .recorded .num) 0 (search ands depth 12) k };
+}
+
+pub sized-used : (e : Entry) → e .used ≡ true → sized e ≡ true
+unfolding sized
+sized-used e u = rw u
+
+pub sized-free : (e : Entry) → e .used ≡ false → length (e .key .bytes) ≡ 64 → sized e ≡ true
+unfolding sized
+sized-free e u long = rw (u, eq-eqb (length (e .key .bytes)) 64 long)
+
+-- a free entry within the limits is zeros
+module _ (c : Config) (clock : ℕ) where
+  free-is : (e : Entry) → e .used ≡ false → entryOk c clock e ≡ true → length (e .key .bytes) ≡ 64 → e ≡ free
+  unfolding entryOk isNoKey
+  free-is e u h long =
+      let ok = rw u at h in
+      let z : e .key .bytes ≡ replicate 64 0 = zeros (e .key .bytes) (search ands depth 12) ∙ ap (λ (n : ℕ). replicate n 0) long in
+      λ k. record { key = record { bytes = z k; len = eqb-true (e .key .len) 0 (search ands depth 12) k }; used = u k; touched = eqb-true (e .touched) 0 (search ands depth 12) k; state = nothing-is (e .state) (search ands depth 12) k }
+
+  kept-by : (lifetime time : ℕ) (e : Entry) (b : Bool) → e .used ≡ b → entryOk c clock e ≡ true → sized e ≡ true → unexpired lifetime time e ≡ true → swept lifetime time e ≡ e
+  unfolding sized unexpired live
+  kept-by lifetime time e true u h z x =
+      swept-live lifetime time e (rw u (no-no (ltb (time - e .touched) lifetime) (rw u at x)))
+    where
+      no-no : (b : Bool) → not (not b) ≡ true → b ≡ true
+      no-no true h = refl
+      no-no false h = h
+  kept-by lifetime time e false u h z x =
+      swept-dead lifetime time e (rw u) ∙ sym (free-is e u h (eqb-true (length (e .key .bytes)) 64 (rw u at z)))
+
+  swept-all : (lifetime time : ℕ) (l : List Entry) → all (entryOk c clock) l ≡ true → all sized l ≡ true → all (unexpired lifetime time) l ≡ true → map (swept lifetime time) l ≡ l
+  swept-all lifetime time [] h z x = refl
+  swept-all lifetime time (e ∷ rest) h z x =
+      ap₂ _∷_
+      (kept-by lifetime time e (e .used) refl (and-left (entryOk c clock e) (all (entryOk c clock) rest) h) (and-left (sized e) (all sized rest) z) (and-left (unexpired lifetime time e) (all (unexpired lifetime time) rest) x))
+      (swept-all lifetime time rest (and-right (entryOk c clock e) (all (entryOk c clock) rest) h) (and-right (sized e) (all sized rest) z) (and-right (unexpired lifetime time e) (all (unexpired lifetime time) rest) x))
+
+  -- where nothing is expired a sweep leaves the row as it is
+  pub sweep-kept : (lifetime time : ℕ) (l : List Entry) (b : Bool) → all (entryOk c clock) l ≡ true → all sized l ≡ true → all (unexpired lifetime time) l ≡ b
+      → cond (not b) (sweep lifetime time l) l ≡ sweep lifetime time l
+  unfolding sweep
+  sweep-kept lifetime time l true h z x = sym (swept-all lifetime time l h z x)
+  sweep-kept lifetime time l false h z x = refl
 
 -- One more entry of the row is mapped in place.
 module _ (f : Entry → Entry) (row : List Entry) (i : ℕ) (h : i < length row) where

@@ -1,8 +1,9 @@
 -- How the code tests a table and finds a place quickly. No contract of a public call cites this.
-use Prim.Native.Nat.{ℕ, _+_, _*_}
-use mathlib.Core.Bool.{Bool, cond, not, _&&_}
+use Prim.Native.Nat.{ℕ, _+_, _-_, _*_}
+use mathlib.Core.Bool.{Bool, cond, not, _&&_, _||_}
 use mathlib.Core.List.{List, [], _∷_}
-use lib.Dec.{leb}
+use lib.ListN.{length}
+use lib.Dec.{leb, ltb, eqb}
 use Rattle.digest.specs.Digest.{digestOf, folded}
 use Rattle.block_table.specs.declared.Entry.{Entry}
 use Rattle.block_table.specs.Lists.{all}
@@ -26,3 +27,11 @@ holdsLive lifetime time k e = live lifetime time e && same k (keyOf (e .key))
 
 abbrev pub notLive : ℕ → ℕ → Entry → Bool
 notLive lifetime time e = not (live lifetime time e)
+
+-- What the types give of a free entry: the bytes of its key are 64.
+unfoldable pub sized : Entry → Bool
+sized e = e .used || eqb (length (e .key .bytes)) 64
+
+-- Free, or live: a sweep leaves it as it is, if the table is within its limits.
+unfoldable pub unexpired : ℕ → ℕ → Entry → Bool
+unexpired lifetime time e = not (e .used && not (ltb (time - e .touched) lifetime))

@@ -5,7 +5,7 @@ use block_state::Cached;
 use block_state::Config;
 use block_state::Recorded;
 ghost use mathlib.Core.Path.{_≡_};
-ghost use mathlib.Core.Bool.{true, false, _&&_, cond};
+ghost use mathlib.Core.Bool.{true, false, not, _&&_, cond};
 ghost use Prim.Native.Nat.{_-_, _≤_, _<_, _^_};
 ghost use lib.ListN.{length, take, drop, set};
 ghost use lib.Dec.{eqb, ltb};
@@ -13,8 +13,8 @@ ghost use Rattle.digest.specs.Digest.{digestOf, folded};
 ghost use Rattle.block_state.specs.State.{nothing};
 ghost use Rattle.block_table.specs.Lists.{find, all};
 ghost use Rattle.block_table.specs.Keys.{same, keyOk, stored, isNoKey};
-ghost use Rattle.block_table.specs.Table.{inUse, free, entryOk, clash, distinct, tableOk, live, swept, sweep, at, place, freshTable};
-ghost use Rattle.block_table.specs.Quick.{tagOf, tagsFrom, alone, holdsLive, notLive};
+ghost use Rattle.block_table.specs.Table.{inUse, free, entryOk, clash, distinct, tableOk, swept, sweep, at, place, freshTable};
+ghost use Rattle.block_table.specs.Quick.{tagOf, tagsFrom, alone, holdsLive, notLive, sized, unexpired};
 
 #[repr(C)]
 pub struct Key {
@@ -107,7 +107,7 @@ fn same_stored(a: [u8; 64], a_len: usize, b: [u8; 64], b_len: usize) -> bool
 
 // Summed in 32 bits, since such a loop is vectorised.
 fn zero_bytes(bytes: [u8; 64]) -> bool
-    ensures { λ r. ⌜ r ≡ all (λ b. eqb b 0) bytes ⌝ }
+    ensures { λ r. ⌜ (r ≡ all (λ b. eqb b 0) bytes) × (length bytes ≡ 64) ⌝ }
 {
     let mut sum = 0;
     let mut i = 0;
@@ -119,7 +119,7 @@ fn zero_bytes(bytes: [u8; 64]) -> bool
 }
 
 fn no_key(key: Key) -> bool
-    ensures { λ r. ⌜ r ≡ isNoKey key ⌝ }
+    ensures { λ r. ⌜ (r ≡ isNoKey key) × (length (key .bytes) ≡ 64) ⌝ }
 {
     let bytes = key.bytes;
     zero_bytes(bytes) & (key.len == 0)
@@ -161,7 +161,7 @@ fn used_ok(config: Config, clock: u64, e: Entry) -> bool
 
 fn free_ok(config: Config, clock: u64, e: Entry) -> bool
     requires { ⌜ e .used ≡ false ⌝ }
-    ensures { λ r. ⌜ r ≡ entryOk config clock e ⌝ }
+    ensures { λ r. ⌜ (r ≡ entryOk config clock e) × (length (e .key .bytes) ≡ 64) ⌝ }
 {
     let key = e.key;
     let state = e.state;
@@ -169,7 +169,7 @@ fn free_ok(config: Config, clock: u64, e: Entry) -> bool
 }
 
 fn entry_ok(config: Config, clock: u64, e: Entry) -> bool
-    ensures { λ r. ⌜ r ≡ entryOk config clock e ⌝ }
+    ensures { λ r. ⌜ (r ≡ entryOk config clock e) × (sized e ≡ true) ⌝ }
 {
     if e.used {
         return used_ok(config, clock, e);
@@ -178,7 +178,7 @@ fn entry_ok(config: Config, clock: u64, e: Entry) -> bool
 }
 
 fn each_ok(config: Config, clock: u64, entries: [Entry; 16]) -> bool
-    ensures { λ r. ⌜ (r ≡ all (entryOk config clock) entries) × (length entries ≡ 16) ⌝ }
+    ensures { λ r. ⌜ (r ≡ all (entryOk config clock) entries) × (length entries ≡ 16) × (r ≡ true → all sized entries ≡ true) ⌝ }
 {
     let mut i = 0;
     while i < 16 {
@@ -322,13 +322,20 @@ pub fn swept_entry(e: Entry, lifetime: u64, time: u64) -> Entry
     free_entry()
 }
 
-// A sweep would free nothing.
-pub fn all_live(entries: [Entry; 16], lifetime: u64, time: u64) -> bool
-    ensures { λ r. ⌜ r ≡ all (live lifetime time) entries ⌝ }
+fn is_expired(used: bool, touched: u64, lifetime: u64, time: u64) -> bool
+    ensures { λ r. ⌜ r ≡ (used && not (ltb (time - touched) lifetime)) ⌝ }
+{
+    let idle = age(touched, time);
+    used & !(idle < lifetime)
+}
+
+// A sweep would free nothing that is in use.
+pub fn none_expired(entries: [Entry; 16], lifetime: u64, time: u64) -> bool
+    ensures { λ r. ⌜ r ≡ all (unexpired lifetime time) entries ⌝ }
 {
     let mut i = 0;
     while i < 16 {
-        if !is_live(entries[i].used, entries[i].touched, lifetime, time) {
+        if is_expired(entries[i].used, entries[i].touched, lifetime, time) {
             return false;
         }
         i += 1;
@@ -453,7 +460,7 @@ fn place_tagged(
 // The place of the key in the row that a sweep would leave, where the table is within its limits; else 17.
 pub fn place_in(config: Config, table: Table, time: u64, key: &[u8]) -> usize
     requires { ⌜ length (now key) ≤ 64 ⌝ }
-    ensures { λ r. ⌜ (r ≡ cond (tableOk config table) (place (now (key .entry)) (sweep (config .lifetime) time (table .entries))) 17) × (length (table .entries) ≡ 16) ⌝ }
+    ensures { λ r. ⌜ (r ≡ cond (tableOk config table) (place (now (key .entry)) (sweep (config .lifetime) time (table .entries))) 17) × (length (table .entries) ≡ 16) × ((r ≡ 17 → ⊥) → all sized (table .entries) ≡ true) ⌝ }
 {
     let entries = table.entries;
     let clock = table.clock;

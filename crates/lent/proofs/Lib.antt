@@ -1,3 +1,4 @@
 pub mod Forms
 pub mod Sweeps
 pub mod Turns
+pub mod Same

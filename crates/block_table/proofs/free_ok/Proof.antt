@@ -11,7 +11,7 @@ is-nothing-requires c κs = search needs
 
 returns : tie.Need-returns
 unfolding entryOk
-returns c = rw (c .before .before .before .before .before .pre, c .is-nothing .ensures, c .before .before .no-key .ensures)
+returns c = (rw (c .before .before .before .before .before .pre, c .is-nothing .ensures, c .before .before .no-key .ensures .0), c .before .before .no-key .ensures .1)
 
 pub free-ok-spec : {M : Type 1} → statement M
 free-ok-spec = tie.close (tie.spec no-key-requires is-nothing-requires returns)

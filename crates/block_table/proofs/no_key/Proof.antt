@@ -8,7 +8,7 @@ zero-bytes-requires c κs = search needs
 
 returns : tie.Need-returns
 unfolding isNoKey
-returns c = rw (c .before .zero-bytes .ensures)
+returns c = (rw (c .before .zero-bytes .ensures .0), c .before .zero-bytes .ensures .1)
 
 pub no-key-spec : {M : Type 1} → statement M
 no-key-spec = tie.close (tie.spec zero-bytes-requires returns)

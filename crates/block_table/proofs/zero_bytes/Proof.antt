@@ -40,7 +40,7 @@ loop-again c =
 returns : tie.Need-returns Inv-loop μ-loop
 returns c =
     let l = c .before in
-    rw (total-end (l .before .args .t1) (l .loop .i) (l .loop .sum) _ (omega arith) (l .loop .inv .1 .1 .1)) (total-zeros (l .before .args .t1))
+    (rw (total-end (l .before .args .t1) (l .loop .i) (l .loop .sum) _ (omega arith) (l .loop .inv .1 .1 .1)) (total-zeros (l .before .args .t1)), l .loop .inv .0)
 
 pub zero-bytes-spec : {M : Type 1} → statement M
 zero-bytes-spec =

@@ -11,7 +11,7 @@ use Rattle.block_handler.proofs.calls.request_at.Tie as tie
 
 -- what the verdict tells
 placed : (c : tie.Start) → AtPlace (c .args .config) (c .args .table) (length (c .args .upload .now)) (c .args .v) (c .args .time) (c .args .key .now) 0 (c .args .i)
-placed c = at-place _ _ _ _ _ _ _ _ _ _ (c .pre)
+placed c = at-place _ _ _ _ _ _ _ _ _ _ (c .pre .0)
 
 -- the entry that the step starts from
 entry-is : (c : tie.After-start-from) → let s = c .before .before .before .before .before .before .before .before .before in c .start-from .result ≡ opened (s .args .key .now) (sweep (s .args .config .lifetime) (s .args .time) (s .args .table .entries))
@@ -54,14 +54,14 @@ step-request-requires c κs = let p = placed (c .before .before .before .before 
 touched-requires : tie.Need-touched-requires
 touched-requires c κs = search needs
 
-all-live-requires : tie.Need-all-live-requires
-all-live-requires c κs = search needs
+none-expired-requires : tie.Need-none-expired-requires
+none-expired-requires c κs = search needs
 
 same-length : tie.Need-same-length
 same-length c = search needs
 
 returns : tie.Need-returns
-returns c = (λ d. request-left (c .before .before .before .before .before .before .before .before .before .before .before .before .before .before .before .before .before .before .before .before .before .args .config) (c .before .before .before .before .before .before .before .before .before .before .before .before .before .before .before .before .before .before .before .before .before .args .table) (c .before .before .before .before .before .before .before .before .before .before .before .before .before .before .before .before .before .before .before .before .before .args .upload .now) d (c .before .before .before .before .before .before .before .before .before .before .before .before .before .before .before .before .before .before .before .before .before .args .time) _ (c .before .before .before .before .before .before .before .before .before .before .before .before .before .before .before .before .before .before .before .before .before .args .i) _ _ (c .before .before .before .before .before .before .step-request .result .state) (c .before .before .before .before .before .before .step-request .last .1 .1 .1 .1 .0) _ (c .before .before .before .before .before .before .step-request .result .answer) (after _ _ (c .before .before .before .before .before .before .before .before .before .before .before .before .before .before .before .before .before .before .before .before .before .args .table .entries) _ _ _ _ (c .before .before .before .before .before .before .step-request .result .state) (c .all-live .ensures) (rw (entry-is (c .before .before .before .before .before .before .before .before .before .before .before .before)) at (c .before .touched .ensures))) _ (rw (entry-is (c .before .before .before .before .before .before .before .before .before .before .before .before), lent-piece (c .before .before .before .before .before .before .before .before .before .before .before .before .before .before .before .before .before .before .before .before .before .args .upload .now) (c .before .before .before .before .before .before .before .before .before .before .before .before .before .before .before .before .before .before .before .before .before .args .config .upload) (c .before .before .before .before .before .before .before .before .before .before .before .before .before .before .before .before .before .before .before .before .before .args .i)) at (c .before .before .before .before .before .before .step-request .ensures)) (lent-back (c .before .before .before .before .before .before .before .before .before .before .before .before .before .before .before .before .before .before .before .before .before .args .upload .now) (c .before .before .before .before .before .before .before .before .before .before .before .before .before .before .before .before .before .before .before .before .before .args .config .upload) (c .before .before .before .before .before .before .before .before .before .before .before .before .before .before .before .before .before .before .before .before .before .args .i) _ (c .before .before .before .before .before .before .step-request .kept .1 .1 .1 .1 .0 ∙ lent-length (c .before .before .before .before .before .before .before .before .before .before .before .before .before .before .before .before .before .before .before .before .before .args .upload .now) (c .before .before .before .before .before .before .before .before .before .before .before .before .before .before .before .before .before .before .before .before .before .args .config .upload) (c .before .before .before .before .before .before .before .before .before .before .before .before .before .before .before .before .before .before .before .before .before .args .i) (placed (c .before .before .before .before .before .before .before .before .before .before .before .before .before .before .before .before .before .before .before .before .before) .up))), search needs)
+returns c = (λ d. request-left (c .before .before .before .before .before .before .before .before .before .before .before .before .before .before .before .before .before .before .before .before .before .args .config) (c .before .before .before .before .before .before .before .before .before .before .before .before .before .before .before .before .before .before .before .before .before .args .table) (c .before .before .before .before .before .before .before .before .before .before .before .before .before .before .before .before .before .before .before .before .before .args .upload .now) d (c .before .before .before .before .before .before .before .before .before .before .before .before .before .before .before .before .before .before .before .before .before .args .time) _ (c .before .before .before .before .before .before .before .before .before .before .before .before .before .before .before .before .before .before .before .before .before .args .i) _ _ (c .before .before .before .before .before .before .step-request .result .state) (c .before .before .before .before .before .before .step-request .last .1 .1 .1 .1 .0) _ (c .before .before .before .before .before .before .step-request .result .answer) (after _ _ _ _ _ _ (c .before .before .before .before .before .before .step-request .result .state) (placed (c .before .before .before .before .before .before .before .before .before .before .before .before .before .before .before .before .before .before .before .before .before) .kept _ (c .before .before .before .before .before .before .before .before .before .before .before .before .before .before .before .before .before .before .before .before .before .pre .1) (sym (c .none-expired .ensures))) (rw (entry-is (c .before .before .before .before .before .before .before .before .before .before .before .before)) at (c .before .touched .ensures))) _ (rw (entry-is (c .before .before .before .before .before .before .before .before .before .before .before .before), lent-piece (c .before .before .before .before .before .before .before .before .before .before .before .before .before .before .before .before .before .before .before .before .before .args .upload .now) (c .before .before .before .before .before .before .before .before .before .before .before .before .before .before .before .before .before .before .before .before .before .args .config .upload) (c .before .before .before .before .before .before .before .before .before .before .before .before .before .before .before .before .before .before .before .before .before .args .i)) at (c .before .before .before .before .before .before .step-request .ensures)) (lent-back (c .before .before .before .before .before .before .before .before .before .before .before .before .before .before .before .before .before .before .before .before .before .args .upload .now) (c .before .before .before .before .before .before .before .before .before .before .before .before .before .before .before .before .before .before .before .before .before .args .config .upload) (c .before .before .before .before .before .before .before .before .before .before .before .before .before .before .before .before .before .before .before .before .before .args .i) _ (c .before .before .before .before .before .before .step-request .kept .1 .1 .1 .1 .0 ∙ lent-length (c .before .before .before .before .before .before .before .before .before .before .before .before .before .before .before .before .before .before .before .before .before .args .upload .now) (c .before .before .before .before .before .before .before .before .before .before .before .before .before .before .before .before .before .before .before .before .before .args .config .upload) (c .before .before .before .before .before .before .before .before .before .before .before .before .before .before .before .before .before .before .before .before .before .args .i) (placed (c .before .before .before .before .before .before .before .before .before .before .before .before .before .before .before .before .before .before .before .before .before) .up))), search needs)
 
 pub request-at-spec : {M : Type 1} → statement M
 request-at-spec =
@@ -78,6 +78,6 @@ request-at-spec =
     part-step-request-end
     step-request-requires
     touched-requires
-    all-live-requires
+    none-expired-requires
     same-length
     returns)

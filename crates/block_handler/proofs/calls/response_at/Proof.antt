@@ -11,7 +11,7 @@ use Rattle.block_handler.proofs.calls.response_at.Tie as tie
 
 -- what the verdict tells
 placed : (c : tie.Start) → AtPlace (c .args .config) (c .args .table) (c .args .u) (length (c .args .response .now)) (c .args .time) (c .args .key .now) (length (c .args .head .now)) (c .args .i)
-placed c = at-place _ _ _ _ _ _ _ _ _ _ (c .pre)
+placed c = at-place _ _ _ _ _ _ _ _ _ _ (c .pre .0)
 
 -- the entry that the step starts from
 entry-is : (c : tie.After-start-from) → let s = c .before .before .before .before .before .before .before .before in c .start-from .result ≡ opened (s .args .key .now) (sweep (s .args .config .lifetime) (s .args .time) (s .args .table .entries))
@@ -47,14 +47,14 @@ step-response-requires c κs = let p = placed (c .before .before .before .before
 touched-requires : tie.Need-touched-requires
 touched-requires c κs = search needs
 
-all-live-requires : tie.Need-all-live-requires
-all-live-requires c κs = search needs
+none-expired-requires : tie.Need-none-expired-requires
+none-expired-requires c κs = search needs
 
 same-length : tie.Need-same-length
 same-length c = search needs
 
 returns : tie.Need-returns
-returns c = (λ m. response-left (c .before .before .before .before .before .before .before .before .before .before .before .before .before .before .before .before .before .before .before .args .config) (c .before .before .before .before .before .before .before .before .before .before .before .before .before .before .before .before .before .before .before .args .table) m (c .before .before .before .before .before .before .before .before .before .before .before .before .before .before .before .before .before .before .before .args .response .now) (c .before .before .before .before .before .before .before .before .before .before .before .before .before .before .before .before .before .before .before .args .time) _ (c .before .before .before .before .before .before .before .before .before .before .before .before .before .before .before .before .before .before .before .args .i) _ _ (c .before .before .before .before .before .before .step-response .result .state) (c .before .before .before .before .before .before .step-response .last .1 .1 .0) _ (c .before .before .before .before .before .before .step-response .result .answer) (after _ _ (c .before .before .before .before .before .before .before .before .before .before .before .before .before .before .before .before .before .before .before .args .table .entries) _ _ _ _ (c .before .before .before .before .before .before .step-response .result .state) (c .all-live .ensures) (rw (entry-is (c .before .before .before .before .before .before .before .before .before .before .before)) at (c .before .touched .ensures))) _ (rw (entry-is (c .before .before .before .before .before .before .before .before .before .before .before), lent-piece (c .before .before .before .before .before .before .before .before .before .before .before .before .before .before .before .before .before .before .before .args .response .now) (c .before .before .before .before .before .before .before .before .before .before .before .before .before .before .before .before .before .before .before .args .config .response) (c .before .before .before .before .before .before .before .before .before .before .before .before .before .before .before .before .before .before .before .args .i)) at (c .before .before .before .before .before .before .step-response .ensures)) (lent-back (c .before .before .before .before .before .before .before .before .before .before .before .before .before .before .before .before .before .before .before .args .response .now) (c .before .before .before .before .before .before .before .before .before .before .before .before .before .before .before .before .before .before .before .args .config .response) (c .before .before .before .before .before .before .before .before .before .before .before .before .before .before .before .before .before .before .before .args .i) _ (c .before .before .before .before .before .before .step-response .kept .1 .1 .0 ∙ lent-length (c .before .before .before .before .before .before .before .before .before .before .before .before .before .before .before .before .before .before .before .args .response .now) (c .before .before .before .before .before .before .before .before .before .before .before .before .before .before .before .before .before .before .before .args .config .response) (c .before .before .before .before .before .before .before .before .before .before .before .before .before .before .before .before .before .before .before .args .i) (placed (c .before .before .before .before .before .before .before .before .before .before .before .before .before .before .before .before .before .before .before) .down))), search needs)
+returns c = (λ m. response-left (c .before .before .before .before .before .before .before .before .before .before .before .before .before .before .before .before .before .before .before .args .config) (c .before .before .before .before .before .before .before .before .before .before .before .before .before .before .before .before .before .before .before .args .table) m (c .before .before .before .before .before .before .before .before .before .before .before .before .before .before .before .before .before .before .before .args .response .now) (c .before .before .before .before .before .before .before .before .before .before .before .before .before .before .before .before .before .before .before .args .time) _ (c .before .before .before .before .before .before .before .before .before .before .before .before .before .before .before .before .before .before .before .args .i) _ _ (c .before .before .before .before .before .before .step-response .result .state) (c .before .before .before .before .before .before .step-response .last .1 .1 .0) _ (c .before .before .before .before .before .before .step-response .result .answer) (after _ _ _ _ _ _ (c .before .before .before .before .before .before .step-response .result .state) (placed (c .before .before .before .before .before .before .before .before .before .before .before .before .before .before .before .before .before .before .before) .kept _ (c .before .before .before .before .before .before .before .before .before .before .before .before .before .before .before .before .before .before .before .pre .1) (sym (c .none-expired .ensures))) (rw (entry-is (c .before .before .before .before .before .before .before .before .before .before .before)) at (c .before .touched .ensures))) _ (rw (entry-is (c .before .before .before .before .before .before .before .before .before .before .before), lent-piece (c .before .before .before .before .before .before .before .before .before .before .before .before .before .before .before .before .before .before .before .args .response .now) (c .before .before .before .before .before .before .before .before .before .before .before .before .before .before .before .before .before .before .before .args .config .response) (c .before .before .before .before .before .before .before .before .before .before .before .before .before .before .before .before .before .before .before .args .i)) at (c .before .before .before .before .before .before .step-response .ensures)) (lent-back (c .before .before .before .before .before .before .before .before .before .before .before .before .before .before .before .before .before .before .before .args .response .now) (c .before .before .before .before .before .before .before .before .before .before .before .before .before .before .before .before .before .before .before .args .config .response) (c .before .before .before .before .before .before .before .before .before .before .before .before .before .before .before .before .before .before .before .args .i) _ (c .before .before .before .before .before .before .step-response .kept .1 .1 .0 ∙ lent-length (c .before .before .before .before .before .before .before .before .before .before .before .before .before .before .before .before .before .before .before .args .response .now) (c .before .before .before .before .before .before .before .before .before .before .before .before .before .before .before .before .before .before .before .args .config .response) (c .before .before .before .before .before .before .before .before .before .before .before .before .before .before .before .before .before .before .before .args .i) (placed (c .before .before .before .before .before .before .before .before .before .before .before .before .before .before .before .before .before .before .before) .down))), search needs)
 
 pub response-at-spec : {M : Type 1} → statement M
 response-at-spec =
@@ -70,6 +70,6 @@ response-at-spec =
     part-step-response-end
     step-response-requires
     touched-requires
-    all-live-requires
+    none-expired-requires
     same-length
     returns)
