@@ -14,10 +14,10 @@ use Rattle.negotiation.specs.declared.MaybeBlock.the-variants.{Absent, Given}
 use Rattle.block_state.specs.declared.Answer.{Answer}
 use Rattle.block_state.specs.declared.Answer.the-variants.{Continue, TooLarge, Handed, Pass, Served, Plain, Whole, First, Refused}
 use Rattle.block_state.proofs.Tests.{by-cases}
-use Rattle.block_handler.specs.declared.Source.{Source}
-use Rattle.block_handler.specs.declared.Source.the-variants.{Nothing, Message, Within}
-use Rattle.block_handler.specs.declared.Shows.{Shows}
-use Rattle.block_handler.specs.Parts.{shows, shownBy, partOf, bytesOf, bodyOf, servedHead, servedChunk, sentBytes}
+use Rattle.answers.specs.declared.Source.{Source}
+use Rattle.answers.specs.declared.Source.the-variants.{Nothing, Message, Within}
+use Rattle.answers.specs.declared.Shows.{Shows}
+use Rattle.answers.specs.Parts.{shows, shownBy, partOf, bytesOf, bodyOf, servedHead, servedChunk, sentBytes}
 use Rattle.handler_c.specs.declared.Block.{Block}
 use Rattle.handler_c.specs.declared.Reply.{Reply}
 use Rattle.handler_c.specs.Reply.{replyOf}
