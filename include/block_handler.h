@@ -1,9 +1,12 @@
 /* The block handler (RFC 7959) for C: the functions of libhandler_c.a, for x86-64 Linux.
  *
- * Every function is total: any numbers, lengths and bytes may be passed. What is off the limits gets refusal 1.
+ * Every function takes any values: what is off the limits gets refusal 1. What C itself asks stays with the caller:
+ * - each pointer, also one that is not read, is not NULL and is good for its length, also where the call is refused. For an absent option or
+ *   an empty payload, pass a pointer to any byte and a length of 0;
+ * - what is lent to one call does not overlap, except that bytes which are only read may;
+ * - a bool holds 0 or 1, in every struct. A table that comes from outside (a file, say) is to be checked for that first;
+ * - two calls at once share no table and no memory.
  * The caller owns the table and both memories and lends them to each call. Nothing is allocated, and no pointer is kept.
- * What is lent to one call must not overlap, except that bytes which are only read may. A pointer whose length is 0 is not
- * read, but must not be NULL. A bool holds 0 or 1, also within the table.
  *
  * A slice crosses as two arguments, pointer then length, wherever it stands in the list, and a struct as C passes it by value:
  * so the functions are declared here as they are compiled, and need no wrapper. */
@@ -25,9 +28,9 @@ extern "C" {
 /* The table's entries: at most so many keys are live at a time. Each owns one piece of either memory. */
 #define BLOCK_HANDLER_ENTRIES 16
 
-/* How the handler is set up. A call with other settings than the call before it may find the table off its limits. */
+/* How the handler is set up. Another `upload` or `response` needs a fresh table: the pieces of the memories lie elsewhere then. */
 struct block_handler_config {
-    bool strict;       /* false: plain mode, as the Rust answers. true: only the next block is taken. */
+    bool strict;       /* false: plain mode, as the Rust answers. true: only the next block of a full size is taken; block 0 starts afresh. */
     size_t limit;      /* T, the most bytes of a message: 1 to 65535. */
     uint64_t lifetime; /* Milliseconds that a key lives after its last call: 1 to 4294967295. */
     size_t upload;     /* U, the length of one piece of the upload memory: 16 to 65536. The memory is 16 * U long. */
@@ -82,7 +85,7 @@ struct block_handler_table {
     struct block_handler_entry entries[BLOCK_HANDLER_ENTRIES];
 };
 
-/* The bytes from..to. */
+/* The bytes from `from` on, up to `to` and without it. */
 struct block_handler_part {
     size_t from;
     size_t to;
@@ -90,21 +93,38 @@ struct block_handler_part {
 
 /* What a call answers. */
 enum block_handler_kind {
-    BLOCK_HANDLER_REFUSED = 0,   /* See `refusal`. */
+    BLOCK_HANDLER_REFUSED = 0,   /* Send `code`. `refusal` says why: an enum block_handler_refusal. */
     BLOCK_HANDLER_CONTINUE = 1,  /* Send 2.31 with block1. */
     BLOCK_HANDLER_TOO_LARGE = 2, /* Send 4.13 with block1. */
     BLOCK_HANDLER_HANDED = 3,    /* To the application, with the whole body; its response gets block1. */
     BLOCK_HANDLER_PASS = 4,      /* To the application, with the message's own payload. */
-    BLOCK_HANDLER_SERVED = 5,    /* Send the cached head and chunk, with block2, and block1 if it is given. */
+    BLOCK_HANDLER_SERVED = 5,    /* Send the cached head and chunk, with block2, and block1 if it is given. The head is that of the cached
+                                    response: put in the message id and token of this one, and let a Block1 option that it has stand in
+                                    place of block1. Where block1 is given, an upload was completed by this request, and is lost. */
     BLOCK_HANDLER_PLAIN = 6,     /* Send the response as it is. */
     BLOCK_HANDLER_WHOLE = 7,     /* Send the response with block2 and its chunk: its last. */
-    BLOCK_HANDLER_FIRST = 8      /* Send the response with block2 and its chunk: the rest is cached. */
+    BLOCK_HANDLER_FIRST = 8      /* Send the response with block2 and its chunk: the whole response is cached. */
+};
+
+/* Why a call is refused, and what it leaves. 1 to 3 leave everything as it was. The others leave only the touch: expired entries
+ * freed, the clock recorded, the key's entry there and touched. */
+enum block_handler_refusal {
+    BLOCK_HANDLER_OFF_LIMITS = 1,    /* A number, a length, the table or a memory is off the limits. */
+    BLOCK_HANDLER_CLOCK = 2,         /* The time is before that of an earlier call. */
+    BLOCK_HANDLER_FULL = 3,          /* The key is not live, and sixteen others are. */
+    BLOCK_HANDLER_NO_ROOM = 4,       /* The message leaves no room for a block: bare + 12 > limit. */
+    BLOCK_HANDLER_NO_BLOCK = 5,      /* No block value can be made. */
+    BLOCK_HANDLER_JUMP = 6,          /* The block is more than 16,384 bytes past what is assembled (plain mode). */
+    BLOCK_HANDLER_PIECE = 7,         /* The piece is too small for the body or the response. */
+    BLOCK_HANDLER_PAST_THE_END = 8,  /* The chunk asked for is past the end. A request's Block2 is recorded, and a body completed in it is gone. */
+    BLOCK_HANDLER_NOT_NEXT = 9,      /* Not the next block (strict mode). */
+    BLOCK_HANDLER_BAD_FORM = 10      /* A block of a wrong form (strict mode). */
 };
 
 /* An answer in numbers. */
 struct block_handler_reply {
     uint8_t kind;    /* An enum block_handler_kind. */
-    uint8_t refusal; /* 1 to 10 for a refusal, else 0. */
+    uint8_t refusal; /* An enum block_handler_refusal for a refusal, else 0. */
     uint8_t code;    /* The response code in one byte, class * 32 + detail, of an answer that has one; else 0. */
     struct block_handler_block block1;
     struct block_handler_block block2;
@@ -112,8 +132,10 @@ struct block_handler_reply {
     struct block_handler_part head; /* Served: of the response memory. */
 };
 
-/* Where bytes stand that an answer shows: from..to of the message's payload (place 1) or of the memory (place 2). Place 0: no
- * bytes, since the answer has none or names a part that is not there. from <= to <= the length of what it is a part of. */
+/* Where bytes stand that an answer shows: from..to of the message's payload (place 1) or of what the function names second (place 2). Place
+ * 0: no bytes, since the answer has none or names a part that is not there. from <= to <= the length of what it is a part of.
+ * The bytes of a Handed body are good until the next block_handler_request on these memories, those of Served until the next
+ * block_handler_response, and all others as long as the payload. */
 struct block_handler_found {
     uint8_t place;
     size_t from;
@@ -164,10 +186,12 @@ struct block_handler_table block_handler_fresh(void);
 /* The block value of an option's bytes. More than two bytes cannot be read, which counts as none. */
 struct block_handler_block block_handler_read(const uint8_t *option, size_t option_len);
 
-/* The option's bytes for a block value: the shortest form, num taken modulo 4096. */
+/* The option's bytes for a block value: the shortest form, at most two bytes, num taken modulo 4096 and the exponent modulo 8. A reply's num
+ * can pass 4095. */
 struct block_handler_option block_handler_write(uint32_t num, bool more, uint8_t exponent);
 
-/* A request, before the application sees it, at this time in milliseconds, under this key (1 to 64 bytes). `bare` is the length of
+/* A request, before the application sees it, at this time in milliseconds, which never goes back, under this key (1 to 64 bytes): requests
+ * that share a key share an upload and a cached response, so it has the sender, the method and the path. `bare` is the length of
  * the message encoded without its payload. given1 and given2 say whether it has a Block1 and a Block2 option; their bytes count
  * only then. Changes the table and the key's piece of the upload memory; reads nothing of the response memory but its length. */
 struct block_handler_reply block_handler_request(
@@ -178,7 +202,7 @@ struct block_handler_reply block_handler_request(
     bool given2, const uint8_t *block2, size_t block2_len,
     const uint8_t *payload, size_t payload_len);
 
-/* A response, before it is sent. `own` says that it has a Block2 option of its own; `head` is its encoded header and options, at most
+/* A response, before it is sent, under the key of its request; `bare` is the length of the response encoded without its payload. `own` says that it has a Block2 option of its own; `head` is its encoded header and options, at most
  * 128 bytes. Changes the table and the key's piece of the response memory; reads nothing of the upload memory but its length. */
 struct block_handler_reply block_handler_response(
     struct block_handler_table *table, struct block_handler_config config,

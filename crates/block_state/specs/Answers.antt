@@ -1,4 +1,4 @@
--- What each answer says, in document 01's numbers and values; the parts that it shows are `shownBy` of block_handler. The promises use both.
+-- What each answer says, in document 01's numbers and values; the parts that it shows are `shownBy` of answers. The promises use both.
 use Prim.Native.Nat.{ℕ, _+_, _*_}
 use mathlib.Core.Bool.{cond, _||_}
 use lib.Dec.{eqb}

@@ -1,4 +1,4 @@
--- An answer in numbers, as it crosses to C: document 01's number and values for each case.
+-- An answer in numbers, as it crosses to C: a number of our own for each case, document 01's for a refusal, and document 01's values.
 use Prim.Native.Nat.{ℕ}
 use mathlib.Core.Bool.{true, false}
 use mathlib.Core.List.{List, [], _∷_, _++_}

@@ -16,7 +16,7 @@ module _ (c : Config) (w : World) (time : ℕ) (row : List Entry) (i : ℕ) (e :
   abbrev here : Lent
   here = requestLent c (i * c .upload) (i * c .response) time e (pieceOf (c .upload) i (w .upload)) r
 
-  pub same-call : roomFor c (i * c .upload) (i * c .response) (e .state) (length (pieceOf (c .upload) i (w .upload))) ≡ true
+  pub same-call : roomFor c (i * c .upload) (i * c .response) time e (length (pieceOf (c .upload) i (w .upload))) ≡ true
       → callAt c w time row i e (request r)
       ≡ done (record { table = record { clock = time; entries = set row i (here .entry) }; upload = putPiece (c .upload) i (here .piece) (w .upload); response = w .response }) (here .answer)
   unfolding callAt

@@ -11,7 +11,7 @@ use Rattle.lent.specs.declared.Seen.{Seen}
 abbrev pub firstOf : ℕ → ℕ → ℕ → Bool → ℕ
 firstOf found i next passes = cond (ltb found i) found (cond passes i next)
 
--- The place of a key, if the row ended here.
+-- The place of a key, once sixteen entries are seen.
 abbrev pub seenAs : ℕ → ℕ → Seen
 seenAs found free = record { found = found; free = free; place = cond (ltb found 16) found free }
 

@@ -1,6 +1,5 @@
 // The lent forms of document 01: one key's entry by `&mut`, and the table's entries as a lent row.
 use block_state::Answer;
-use block_state::BlockState;
 use block_state::Config;
 use block_table::Entry;
 ghost use mathlib.Core.Path.{_≡_};
@@ -16,7 +15,7 @@ pub struct Outcome {
 }
 
 // What a walk has seen of the row so far: the first entry for the key and the first free one, each the number of entries seen if there is none;
-// and the key's place if the row ended here.
+// and the place that sixteen entries seen so would give.
 pub struct Seen {
     pub found: usize,
     pub free: usize,
@@ -30,24 +29,22 @@ fn refused(e: Entry) -> Outcome
     Outcome { entry: e, answer }
 }
 
-fn wide(n: u32) -> usize
-    ensures { λ r. ⌜ r ≡ n ⌝ }
+// The entry is in use, was not touched later, and its state is within the limits; the piece is of the configuration's size, and no place in a
+// memory overflows.
+fn room_for(config: Config, home: usize, away: usize, time: u64, e: Entry, n: usize) -> bool
+    ensures { λ r. ⌜ r ≡ roomFor config home away time e n ⌝ }
 {
-    n as usize
-}
-
-// The piece is of the configuration's size and holds what is assembled, and no place in a memory overflows.
-fn room_for(config: Config, home: usize, away: usize, state: BlockState, n: usize) -> bool
-    ensures { λ r. ⌜ r ≡ roomFor config home away state n ⌝ }
-{
+    let state = e.state;
     (n == config.upload)
         & (n < 4294967296)
-        & (wide(state.assembled.len) <= n)
+        & e.used
+        & (e.touched <= time)
+        & limits::state_ok(config, state)
         & (home < 4294967296)
         & (away < 4294967296)
 }
 
-// A request's step on an entry by value, where there is room for it; else refusal 1.
+// A request's step on an entry by value, where all that holds; else refusal 1.
 fn step_request<'a>(
     e: Entry,
     config: Config,
@@ -65,7 +62,7 @@ fn step_request<'a>(
     ensures { λ r. ⌜ lent (r .entry) (now (piece .exit)) (r .answer) ≡ requestLent config home away time e (now (piece .entry)) (asking bare given1 (now (block1 .entry)) given2 (now (block2 .entry)) (now (payload .entry))) ⌝ }
 {
     let state = e.state;
-    if !room_for(config, home, away, state, piece.len()) {
+    if !room_for(config, home, away, time, e, piece.len()) {
         return refused(e);
     }
     let step = block_state::step_request(
@@ -95,7 +92,8 @@ fn step_request<'a>(
     }
 }
 
-// A request on an entry that is lent: its state is stepped, and it is touched. `home` and `away` are where the key's two pieces begin.
+// A request on an entry that is lent, in use for its key (a new key's by `block_table::start_from`): its state is stepped, and it is touched. `home` and
+// `away` are where the key's two pieces begin. The limits of the configuration and of the message are the caller's to check.
 pub fn request<'a>(
     e: &mut Entry,
     config: Config,
@@ -181,7 +179,8 @@ fn see(seen: Seen, i: usize, next: usize, e: Entry, key: &[u8]) -> Seen
     }
 }
 
-// The walk over a lent row: frees every entry that is not live, and gives the place of the key among those that are left.
+// The walk over a lent row of sixteen entries: frees every entry that is not live, and gives the place of the key among those that are left, or 16.
+// The clock is the caller's to check; of a row of another length the place means nothing.
 pub fn find_and_free(entries: &mut [Entry], lifetime: u64, time: u64, key: &[u8]) -> usize
     ensures { λ r. ⌜ (now (entries .exit) ≡ sweep lifetime time (now (entries .entry))) × (r ≡ place (now (key .entry)) (sweep lifetime time (now (entries .entry)))) ⌝ }
 {

@@ -16,7 +16,7 @@ returns : tie.Need-returns
 returns c = rw (c .refused .ensures .0, c .refused .ensures .1) (sym (no-room _ _ _ _ _ _ _ (sym (c .before .before .room-for .ensures) ∙ not-true _ (c .before .if1 .taken))))
 
 step-request-requires : tie.Need-step-request-requires
-step-request-requires c κs = room-of _ _ _ _ _ (sym (c .before .before .room-for .ensures) ∙ not-false _ (c .before .if1 .left))
+step-request-requires c κs = room-of _ _ _ _ _ _ (sym (c .before .before .room-for .ensures) ∙ not-false _ (c .before .if1 .left))
 
 same-length : tie.Need-same-length
 same-length c = search needs
