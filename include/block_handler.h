@@ -30,7 +30,7 @@ extern "C" {
 
 /* How the handler is set up. Another `upload` or `response` needs a fresh table: the pieces of the memories lie elsewhere then. */
 struct block_handler_config {
-    bool strict;       /* false: plain mode, as the Rust answers. true: only the next block of a full size is taken; block 0 starts afresh. */
+    bool strict;       /* false: plain mode, as the Rust answers. true: only the next block is taken, and all but the last are full; block 0 starts afresh. */
     size_t limit;      /* T, the most bytes of a message: 1 to 65535. */
     uint64_t lifetime; /* Milliseconds that a key lives after its last call: 1 to 4294967295. */
     size_t upload;     /* U, the length of one piece of the upload memory: 16 to 65536. The memory is 16 * U long. */
@@ -110,11 +110,11 @@ enum block_handler_kind {
  * freed, the clock recorded, the key's entry there and touched. */
 enum block_handler_refusal {
     BLOCK_HANDLER_OFF_LIMITS = 1,    /* A number, a length, the table or a memory is off the limits. */
-    BLOCK_HANDLER_CLOCK = 2,         /* The time is before that of an earlier call. */
+    BLOCK_HANDLER_CLOCK = 2,         /* The time is before the table's clock: that of an earlier call which was not refused by 1, 2 or 3. */
     BLOCK_HANDLER_FULL = 3,          /* The key is not live, and sixteen others are. */
     BLOCK_HANDLER_NO_ROOM = 4,       /* The message leaves no room for a block: bare + 12 > limit. */
     BLOCK_HANDLER_NO_BLOCK = 5,      /* No block value can be made. */
-    BLOCK_HANDLER_JUMP = 6,          /* The block is more than 16,384 bytes past what is assembled (plain mode). */
+    BLOCK_HANDLER_JUMP = 6,          /* The block ends more than 16,384 bytes past what is assembled (plain mode). */
     BLOCK_HANDLER_PIECE = 7,         /* The piece is too small for the body or the response. */
     BLOCK_HANDLER_PAST_THE_END = 8,  /* The chunk asked for is past the end. A request's Block2 is recorded, and a body completed in it is gone. */
     BLOCK_HANDLER_NOT_NEXT = 9,      /* Not the next block (strict mode). */
@@ -132,8 +132,8 @@ struct block_handler_reply {
     struct block_handler_part head; /* Served: of the response memory. */
 };
 
-/* Where bytes stand that an answer shows: from..to of the message's payload (place 1) or of what the function names second (place 2). Place
- * 0: no bytes, since the answer has none or names a part that is not there. from <= to <= the length of what it is a part of.
+/* Where bytes stand that an answer shows: all of the message's payload (place 1), or from..to of what the function's last argument is the
+ * length of (place 2). Place 0: no bytes, since the answer has none or names a part that is not there. from <= to <= the length of what it is a part of.
  * The bytes of a Handed body are good until the next block_handler_request on these memories, those of Served until the next
  * block_handler_response, and all others as long as the payload. */
 struct block_handler_found {

@@ -18,12 +18,16 @@ use Rattle.block_state.specs.Step.{Left, stepRequest, stepResponse}
 use Rattle.block_state.proofs.Tests.{ands, and-both, on-test}
 use Rattle.block_state.proofs.Fits.{StateFits}
 use Rattle.block_state.proofs.StepKeeps.{Keeps, request-keeps, response-keeps}
-use Rattle.block_table.specs.declared.Key.{Key}
-use Rattle.block_table.specs.declared.Entry.{Entry}
-use Rattle.block_table.specs.Keys.{same, keyOk}
-use Rattle.block_table.specs.Table.{inUse, holds, tableOk, live, at, place, opened}
-use Rattle.block_table.proofs.Entries.{elsewhere, at-set-same, at-set-other}
-use Rattle.block_table.proofs.TableFits.{TableFits, table-fits, fits-table, row-length, row-live, opened-fits, put-fits}
+use Rattle.keys.specs.declared.Key.{Key}
+use Rattle.entries.specs.declared.Entry.{Entry}
+use Rattle.keys.specs.Keys.{same, keyOk}
+use Rattle.entries.specs.Entries.{inUse, holds, live}
+use Rattle.block_table.specs.Table.{tableOk, at}
+use Rattle.places.specs.Places.{place, opened}
+use Rattle.block_table.proofs.Row.{at-set-same, at-set-other}
+use Rattle.places.proofs.Places.{elsewhere}
+use Rattle.block_table.proofs.TableFits.{TableFits, table-fits, fits-table, row-length, row-live}
+use Rattle.places.proofs.Put.{opened-fits, put-fits}
 use Rattle.block_handler.specs.Call.{World, Call, Done, done, configOk, memoriesOk, whatOk, withinLimits, callAt, rowOf, call}
 
 -- the limits of what one call hands on to the next

@@ -12,12 +12,15 @@ use Rattle.block_state.specs.declared.Config.{Config}
 use Rattle.block_state.proofs.Tests.{ands, and-left, by-cases}
 use Rattle.block_state.proofs.Fits.{assembled-most}
 use Rattle.block_table.specs.declared.Table.{Table}
-use Rattle.block_table.specs.Keys.{keyOk}
-use Rattle.block_table.specs.Table.{tableOk, entryOk, distinct, sweep, place, opened}
-use Rattle.block_table.specs.Lists.{all}
-use Rattle.block_table.specs.Quick.{sized, unexpired}
+use Rattle.keys.specs.Keys.{keyOk}
+use Rattle.entries.specs.Entries.{entryOk}
+use Rattle.block_table.specs.Table.{tableOk, distinct, sweep}
+use Rattle.places.specs.Places.{place, opened}
+use Rattle.keys.specs.Lists.{all}
+use Rattle.entries.specs.Quick.{sized, unexpired}
 use Rattle.block_table.proofs.Turns.{sweep-kept}
-use Rattle.block_table.proofs.TableFits.{table-fits, opened-fits}
+use Rattle.block_table.proofs.TableFits.{table-fits}
+use Rattle.places.proofs.Put.{opened-fits}
 use Rattle.block_handler.specs.declared.Verdict.{Verdict}
 use Rattle.block_handler.specs.declared.Verdict.the-variants.{Refused, Place}
 use Rattle.block_handler.specs.Call.{configOk, memoriesOk}
@@ -149,8 +152,8 @@ pub record AtPlace (c : Config) (t : Table) (u v time : ℕ) (key : List ℕ) (h
   pub small : u + v ≤ 2097152
   -- what is assembled lies in its piece
   -- the row is as a sweep would leave it, or has to be swept
-  pub kept : (b : Bool) → all sized (t .entries) ≡ true → all (unexpired (c .lifetime) time) (t .entries) ≡ b
-      → cond (not b) (sweep (c .lifetime) time (t .entries)) (t .entries) ≡ sweep (c .lifetime) time (t .entries)
+  pub kept : (freed : Bool) → all sized (t .entries) ≡ true → freed ≡ not (all (unexpired (c .lifetime) time) (t .entries))
+      → cond freed (sweep (c .lifetime) time (t .entries)) (t .entries) ≡ sweep (c .lifetime) time (t .entries)
   pub holds : length (t .entries) ≡ 16 → opened key (sweep (c .lifetime) time (t .entries)) .state .assembled .len ≤ c .upload
 
 pub at-place : (c : Config) (t : Table) (u v time : ℕ) (key : List ℕ) (bare payload head i : ℕ) → verdictOf c t u v time key bare payload head ≡ Place i
@@ -170,6 +173,6 @@ at-place c t u v time key bare payload head i h =
       up = omega (arith, piece-order i 16 (c .upload) (p .below));
       down = omega (arith, piece-order i 16 (c .response) (p .below));
       small = omega arith;
-      kept = λ b. sweep-kept c (t .clock) (c .lifetime) time (t .entries) b (each-within c t (search ands));
+      kept = λ freed. sweep-kept c (t .clock) (c .lifetime) time (t .entries) freed (each-within c t (search ands));
       holds = λ sixteen. assembled-most c _ (opened-fits c t time (table-fits c t (search ands)) sixteen (p .clock) key (search ands) (rw (← (p .is)) (p .below)) .state .assembled);
     }

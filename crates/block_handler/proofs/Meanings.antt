@@ -16,12 +16,14 @@ use Rattle.block_state.specs.Message.{Request, Response, request, response}
 use Rattle.block_state.specs.State.{nothing}
 use Rattle.block_state.specs.Step.{left, stepRequest, stepResponse}
 use Rattle.block_state.proofs.Tests.{by-cases}
-use Rattle.block_table.specs.declared.Entry.{Entry}
+use Rattle.entries.specs.declared.Entry.{Entry}
 use Rattle.block_table.specs.declared.Table.{Table}
-use Rattle.block_table.specs.Keys.{stored}
-use Rattle.block_table.specs.declared.Key.{Key}
-use Rattle.block_table.specs.Table.{inUse, swept, sweep, place, at, opened}
-use Rattle.block_table.proofs.Entries.{at-sweep}
+use Rattle.keys.specs.Keys.{stored}
+use Rattle.keys.specs.declared.Key.{Key}
+use Rattle.entries.specs.Entries.{inUse, swept}
+use Rattle.block_table.specs.Table.{sweep, at}
+use Rattle.places.specs.Places.{place, opened}
+use Rattle.block_table.proofs.Row.{at-sweep}
 use Rattle.block_handler.specs.declared.Verdict.{Verdict}
 use Rattle.block_handler.specs.declared.Verdict.the-variants as verdict
 use Rattle.block_handler.specs.Call.{World, Call, Done, done, whatOk, withinLimits, tableAfter, requestLeft, responseLeft, callAt, rowOf, call}

@@ -11,11 +11,13 @@ use Rattle.block_state.specs.declared.Answer.{Answer}
 use Rattle.block_state.specs.declared.Answer.the-variants.{Refused}
 use Rattle.block_state.specs.Message.{What, request, response}
 use Rattle.block_state.specs.Step.{Left, stepRequest, stepResponse}
-use Rattle.block_table.specs.declared.Key.{Key}
-use Rattle.block_table.specs.declared.Entry.{Entry}
+use Rattle.keys.specs.declared.Key.{Key}
+use Rattle.entries.specs.declared.Entry.{Entry}
 use Rattle.block_table.specs.declared.Table.{Table}
-use Rattle.block_table.specs.Keys.{keyOk}
-use Rattle.block_table.specs.Table.{inUse, tableOk, sweep, place, opened}
+use Rattle.keys.specs.Keys.{keyOk}
+use Rattle.entries.specs.Entries.{inUse}
+use Rattle.block_table.specs.Table.{tableOk, sweep}
+use Rattle.places.specs.Places.{place, opened}
 
 -- What every call gets "that the call before it left": the table and the two memories.
 pub record World : Type 0 where

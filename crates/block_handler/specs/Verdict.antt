@@ -5,8 +5,9 @@ use mathlib.Core.List.{List}
 use lib.Dec.{leb, ltb}
 use Rattle.block_state.specs.declared.Config.{Config}
 use Rattle.block_table.specs.declared.Table.{Table}
-use Rattle.block_table.specs.Keys.{keyOk}
-use Rattle.block_table.specs.Table.{tableOk, sweep, place}
+use Rattle.keys.specs.Keys.{keyOk}
+use Rattle.block_table.specs.Table.{tableOk, sweep}
+use Rattle.places.specs.Places.{place}
 use Rattle.block_handler.specs.declared.Verdict.{Verdict}
 use Rattle.block_handler.specs.declared.Verdict.the-variants.{Refused, Place}
 use Rattle.block_handler.specs.Call.{configOk, memoriesOk}

@@ -6,9 +6,9 @@ use crate::judge;
 use block_state::Answer;
 use block_state::BlockState;
 use block_state::Config;
-use block_table::Entry;
-use block_table::Key;
 use block_table::Table;
+use entries::Entry;
+use keys::Key;
 ghost use mathlib.Core.Path.{_≡_};
 ghost use mathlib.Core.Bool.{true};
 ghost use mathlib.Core.List.{List};
@@ -16,9 +16,11 @@ ghost use Prim.Native.Nat.{ℕ, _<_};
 ghost use lib.ListN.{length};
 ghost use Rattle.block_state.specs.Message.{request};
 ghost use Rattle.block_state.specs.Contract.{asking, replying};
-ghost use Rattle.block_table.specs.Lists.{all};
-ghost use Rattle.block_table.specs.Table.{inUse, sweep, opened};
-ghost use Rattle.block_table.specs.Quick.{sized};
+ghost use Rattle.keys.specs.Lists.{all};
+ghost use Rattle.entries.specs.Entries.{inUse};
+ghost use Rattle.block_table.specs.Table.{sweep};
+ghost use Rattle.places.specs.Places.{opened};
+ghost use Rattle.entries.specs.Quick.{sized};
 ghost use Rattle.block_handler.specs.Call.{done, callAt};
 ghost use Rattle.block_handler.specs.Verdict.{verdictOf};
 ghost use Rattle.block_handler.specs.Contract.{world, requestCall, responseCall, Meant, changed};
@@ -71,8 +73,9 @@ fn request_at<'a>(
     ensures { λ r. ⌜ ((d : List ℕ) → done (world (changed (config .lifetime) time table r) (now (upload .exit)) d) (r .answer) ≡ callAt config (world table (now (upload .entry)) d) time (sweep (config .lifetime) time (table .entries)) i (opened (now (key .entry)) (sweep (config .lifetime) time (table .entries))) (request (asking bare given1 (now (block1 .entry)) given2 (now (block2 .entry)) (now (payload .entry))))) × (r .at ≡ i) ⌝ }
 {
     let entries = table.entries;
-    let at = block_table::entry_at(entries, i);
-    let e = block_table::start_from(block_table::swept_entry(at, config.lifetime, time), key);
+    let taken = block_table::taken(entries, i, config.lifetime, time);
+    let at = taken.entry;
+    let e = entries::start_from(entries::swept_entry(at, config.lifetime, time), key);
     let state = e.state;
     let home = i * config.upload;
     let away = i * config.response;
@@ -93,7 +96,7 @@ fn request_at<'a>(
     let stored = e.key;
     let left = step.state;
     let entry = touched(stored, time, left);
-    let freed = !block_table::none_expired(entries, config.lifetime, time);
+    let freed = taken.freed;
     let answer = step.answer;
     Change {
         freed,
@@ -122,8 +125,9 @@ fn response_at<'a>(
     ensures { λ r. ⌜ ((m : List ℕ) → done (world (changed (config .lifetime) time table r) m (now (response .exit))) (r .answer) ≡ callAt config (world table m (now (response .entry))) time (sweep (config .lifetime) time (table .entries)) i (opened (now (key .entry)) (sweep (config .lifetime) time (table .entries))) (Rattle.block_state.specs.Message.response (replying bare own (now (head .entry)) (now (payload .entry))))) × (r .at ≡ i) ⌝ }
 {
     let entries = table.entries;
-    let at = block_table::entry_at(entries, i);
-    let e = block_table::start_from(block_table::swept_entry(at, config.lifetime, time), key);
+    let taken = block_table::taken(entries, i, config.lifetime, time);
+    let at = taken.entry;
+    let e = entries::start_from(entries::swept_entry(at, config.lifetime, time), key);
     let state = e.state;
     let from = i * config.response;
     let end = from + config.response;
@@ -139,7 +143,7 @@ fn response_at<'a>(
     let stored = e.key;
     let left = step.state;
     let entry = touched(stored, time, left);
-    let freed = !block_table::none_expired(entries, config.lifetime, time);
+    let freed = taken.freed;
     let answer = step.answer;
     Change {
         freed,
@@ -151,7 +155,7 @@ fn response_at<'a>(
 }
 
 // The table with a change made.
-fn changed_table(table: Table, lifetime: u64, time: u64, change: Change) -> Table
+pub fn changed_table(table: Table, lifetime: u64, time: u64, change: Change) -> Table
     ensures { λ r. ⌜ r ≡ changed lifetime time table change ⌝ }
 {
     let entries = table.entries;

@@ -5,8 +5,8 @@ use block_table::Table;
 ghost use mathlib.Core.Path.{_≡_};
 ghost use mathlib.Core.Bool.{true};
 ghost use Prim.Native.Nat.{ℕ, _≤_};
-ghost use Rattle.block_table.specs.Lists.{all};
-ghost use Rattle.block_table.specs.Quick.{sized};
+ghost use Rattle.keys.specs.Lists.{all};
+ghost use Rattle.entries.specs.Quick.{sized};
 ghost use Rattle.block_handler.specs.Call.{between, configOk, memoriesOk};
 ghost use Rattle.block_handler.specs.Verdict.{messageOk, verdictOf};
 
@@ -64,13 +64,13 @@ pub fn judge(
     if !memories_ok(config, u, v) {
         return Verdict::Refused(1);
     }
-    if !block_table::key_ok(key) {
+    if !keys::key_ok(key) {
         return Verdict::Refused(1);
     }
     if !message_ok(bare, payload, head) {
         return Verdict::Refused(1);
     }
-    let i = block_table::place_in(config, table, time, key);
+    let i = places::place_in(config, table, time, key);
     if i == 17 {
         return Verdict::Refused(1);
     }

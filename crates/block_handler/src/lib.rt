@@ -1,11 +1,12 @@
 // The block handler's calls: on a table by value and two lent memories, for any bytes and numbers.
 use block_state::Answer;
-use block_table::Entry;
 use block_table::Table;
+use entries::Entry;
 
 mod calls;
 mod judge;
 
+pub use calls::changed_table;
 pub use calls::intercept_request;
 pub use calls::intercept_response;
 pub use calls::request_change;

@@ -1,6 +1,4 @@
-pub mod Lists
-pub mod Keys
-pub mod Entries
+pub mod Row
 pub mod TableFits
 pub mod Turns
 pub mod Quick

@@ -1,4 +1,2 @@
-pub mod Lists
-pub mod Keys
 pub mod Table
 pub mod Quick

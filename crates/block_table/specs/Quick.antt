@@ -1,18 +1,11 @@
--- How the code tests a table and finds a place quickly. No contract of a public call cites this.
-use Prim.Native.Nat.{ℕ, _+_, _-_, _*_}
-use mathlib.Core.Bool.{Bool, cond, not, _&&_, _||_}
+-- How the code tells a row's keys apart quickly. No contract of the handler's two calls, nor of an export, cites this.
+use Prim.Native.Nat.{ℕ, _+_}
+use mathlib.Core.Bool.{Bool, not}
 use mathlib.Core.List.{List, [], _∷_}
-use lib.ListN.{length}
-use lib.Dec.{leb, ltb, eqb}
-use Rattle.digest.specs.Digest.{digestOf, folded}
-use Rattle.block_table.specs.declared.Entry.{Entry}
-use Rattle.block_table.specs.Lists.{all}
-use Rattle.block_table.specs.Keys.{same, keyOf}
-use Rattle.block_table.specs.Table.{clash, live}
-
--- A number that entries in use have in common if their keys are equal: odd. A free entry's is even, and apart from every other's.
-unfoldable pub tagOf : Entry → ℕ → ℕ
-tagOf e i = cond (e .used && leb (e .key .len) 64) (folded (digestOf (keyOf (e .key)))) (i * 2)
+use Rattle.entries.specs.declared.Entry.{Entry}
+use Rattle.keys.specs.Lists.{all}
+use Rattle.entries.specs.Entries.{clash}
+use Rattle.entries.specs.Quick.{tagOf}
 
 abbrev pub tagsFrom : ℕ → List Entry → List ℕ
 tagsFrom i [] = []
@@ -20,18 +13,3 @@ tagsFrom i (e ∷ rest) = tagOf e i ∷ tagsFrom (i + 1) rest
 
 abbrev pub alone : Entry → List Entry → Bool
 alone e rest = all (λ f. not (clash e f)) rest
-
--- What a sweep leaves in use for the key, and what it leaves free, seen before the sweep.
-unfoldable pub holdsLive : ℕ → ℕ → List ℕ → Entry → Bool
-holdsLive lifetime time k e = live lifetime time e && same k (keyOf (e .key))
-
-abbrev pub notLive : ℕ → ℕ → Entry → Bool
-notLive lifetime time e = not (live lifetime time e)
-
--- What the types give of a free entry: the bytes of its key are 64.
-unfoldable pub sized : Entry → Bool
-sized e = e .used || eqb (length (e .key .bytes)) 64
-
--- Free, or live: a sweep leaves it as it is, if the table is within its limits.
-unfoldable pub unexpired : ℕ → ℕ → Entry → Bool
-unexpired lifetime time e = not (e .used && not (ltb (time - e .touched) lifetime))

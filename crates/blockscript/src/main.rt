@@ -1,5 +1,5 @@
 // A script of calls on standard input, its first 8 KiB; an answer a line on standard output.
-use runner::buffers;
+use script_state::buffers;
 
 fn main() {
     let mut text = [0u8; 8192];
@@ -21,5 +21,5 @@ fn main() {
         &mut payload,
         &mut out,
     );
-    runner::print(&out, last.at);
+    script_state::print(&out, last.at);
 }

@@ -20,13 +20,17 @@ use Rattle.block_state.specs.Message.{request, WhatBytes}
 use Rattle.block_state.specs.Answers.{said, continue, handed}
 use Rattle.block_state.specs.Step.{left, bytesFrom, stepRequest}
 use Rattle.block_state.proofs.Tests.{ands, and-both, by-cases}
-use Rattle.block_table.specs.declared.Entry.{Entry}
-use Rattle.block_table.specs.Lists.{find}
-use Rattle.block_table.specs.Keys.{same, keyOk}
-use Rattle.block_table.specs.Table.{free, holds, live, unused, at, place, opened}
-use Rattle.block_table.proofs.Lists.{find-at-most}
-use Rattle.block_table.proofs.Keys.{same-refl}
-use Rattle.block_table.proofs.Entries.{holds-used, holds-new, used-live, swept-dead, swept-holds, at-sweep, opened-own, opened-new, opened-key, place-holds, place-of}
+use Rattle.entries.specs.declared.Entry.{Entry}
+use Rattle.keys.specs.Lists.{find}
+use Rattle.keys.specs.Keys.{same, keyOk}
+use Rattle.entries.specs.Entries.{free, holds, live, unused}
+use Rattle.block_table.specs.Table.{at}
+use Rattle.places.specs.Places.{place, opened}
+use Rattle.keys.proofs.Lists.{find-at-most}
+use Rattle.keys.proofs.Keys.{same-refl}
+use Rattle.entries.proofs.Entries.{holds-used, holds-new, used-live, swept-dead, swept-holds}
+use Rattle.block_table.proofs.Row.{at-sweep}
+use Rattle.places.proofs.Places.{opened-own, opened-new, opened-key, place-holds, place-of}
 use Rattle.block_table.proofs.TableFits.{row, row-length, row-unique, row-live}
 use Rattle.block_handler.specs.Call.{World, Call, configOk, whatOk, call}
 use Rattle.answers.specs.Parts.{partOf, bodyOf}

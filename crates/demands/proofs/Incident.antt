@@ -29,8 +29,10 @@ use Rattle.block_state.proofs.Steps.{onward-absent, taken-more, taken-last, spl
 use Rattle.block_state.proofs.Tests.{clash-of}
 use Rattle.block_state.specs.State as state
 use Rattle.block_state.specs.Step as step
-use Rattle.block_table.specs.Keys as keys
+use Rattle.keys.specs.Keys as keys
+use Rattle.entries.specs.Entries as entries
 use Rattle.block_table.specs.Table as table
+use Rattle.places.specs.Places as places
 use Rattle.block_handler.specs.Call.{call}
 use Rattle.block_handler.specs.Call as h
 use Rattle.answers.specs.Parts.{partOf}
@@ -124,7 +126,7 @@ tail-kept c home at s u x l first last plain hx hl h fits hu f g =
 
 -- the same by whole calls, by computation
 pub story : Story
-unfolding h.call h.withinLimits h.configOk h.memoriesOk h.whatOk h.callAt keys.same keys.keyOk keys.keyOf keys.storedOk keys.stored keys.isNoKey table.holds table.entryOk table.clash table.distinct table.tableOk table.live table.swept table.sweep table.place table.opened state.assembledOk state.cachedOk state.recordedOk state.stateOk state.isNothing step.badForm step.notNext step.lengthMet step.onward step.taken step.onSplice step.block1Given step.onNegotiated step.stepRequest requestBlock readOf negotiated negotiation.within replyAt made largestPower sizeOf spliceOf pieces.spliced pieceAfter patch part pieceOf putPiece partOf
+unfolding h.call h.withinLimits h.configOk h.memoriesOk h.whatOk h.callAt keys.same keys.keyOk keys.keyOf keys.storedOk keys.stored keys.isNoKey entries.holds entries.entryOk entries.clash table.distinct table.tableOk entries.live entries.swept table.sweep places.place places.opened state.assembledOk state.cachedOk state.recordedOk state.stateOk state.isNothing step.badForm step.notNext step.lengthMet step.onward step.taken step.onSplice step.block1Given step.onNegotiated step.stepRequest requestBlock readOf negotiated negotiation.within replyAt made largestPower sizeOf spliceOf pieces.spliced pieceAfter patch part pieceOf putPiece partOf
 story =
     record {
       plain = (refl, (refl, refl));

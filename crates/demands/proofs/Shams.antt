@@ -22,9 +22,11 @@ use Rattle.block_state.specs.Answers.{said, continue, handed}
 use Rattle.block_state.specs.State as state
 use Rattle.block_state.specs.Step as step
 use Rattle.block_state.proofs.Tests.{by-cases, on-test, clash-of}
-use Rattle.block_table.specs.Keys as keys
-use Rattle.block_table.specs.Table.{free, live}
+use Rattle.keys.specs.Keys as keys
+use Rattle.entries.specs.Entries.{free, live}
+use Rattle.entries.specs.Entries as entries
 use Rattle.block_table.specs.Table as table
+use Rattle.places.specs.Places as places
 use Rattle.block_handler.specs.Call as h
 use Rattle.answers.specs.Parts.{partOf, bodyOf}
 use Rattle.demands.specs.Demand3.{Handler, HasFree, NothingInPlain, Granted, Demand3, callOn, block}
@@ -42,7 +44,7 @@ none-live strict plain i b h y =
     absurd (clash-of false (sym (ap (λ e. live 100 5 e) (getD-replicate 16 i free free b)) ∙ y) refl)
 
 given-one : (strict : Bool) → Granted (config strict) fresh key 0 (sent 5 [] (7 ∷ [])) [] []
-unfolding h.withinLimits h.configOk h.memoriesOk h.whatOk keys.same keys.keyOk keys.isNoKey table.entryOk table.clash table.distinct table.tableOk state.isNothing negotiation.requestBlock value.readOf value.sizeOf
+unfolding h.withinLimits h.configOk h.memoriesOk h.whatOk keys.same keys.keyOk keys.isNoKey entries.entryOk entries.clash table.distinct table.tableOk state.isNothing negotiation.requestBlock value.readOf value.sizeOf
 given-one strict =
     record {
       entry = inr (has-free strict);
@@ -65,7 +67,7 @@ given-one strict =
     }
 
 given-two : (strict : Bool) → Granted (config strict) fresh key 0 firstBlock (lastBlock ∷ []) later
-unfolding h.withinLimits h.configOk h.memoriesOk h.whatOk keys.same keys.keyOk keys.isNoKey table.entryOk table.clash table.distinct table.tableOk state.isNothing negotiation.requestBlock value.readOf value.sizeOf
+unfolding h.withinLimits h.configOk h.memoriesOk h.whatOk keys.same keys.keyOk keys.isNoKey entries.entryOk entries.clash table.distinct table.tableOk state.isNothing negotiation.requestBlock value.readOf value.sizeOf
 given-two strict =
     record {
       entry = inr (has-free strict);
@@ -88,7 +90,7 @@ given-two strict =
     }
 
 pub can-be-given : CanBeGiven
-unfolding h.withinLimits h.configOk h.memoriesOk h.whatOk keys.same keys.keyOk keys.isNoKey table.entryOk table.clash table.distinct table.tableOk state.isNothing negotiation.requestBlock value.readOf value.sizeOf h.call h.callAt keys.keyOf keys.storedOk keys.stored table.holds table.live table.swept table.sweep table.place table.opened state.assembledOk state.cachedOk state.recordedOk state.stateOk step.badForm step.notNext step.lengthMet step.onward step.taken step.onSplice step.block1Given step.onNegotiated step.stepRequest step.chunked step.onReply step.stepResponse negotiation.negotiated negotiation.within negotiation.replyAt chunk.chunkOf value.made value.largestPower pieces.spliceOf pieces.spliced pieces.pieceAfter memory.patch memory.part memory.pieceOf memory.putPiece
+unfolding h.withinLimits h.configOk h.memoriesOk h.whatOk keys.same keys.keyOk keys.isNoKey entries.entryOk entries.clash table.distinct table.tableOk state.isNothing negotiation.requestBlock value.readOf value.sizeOf h.call h.callAt keys.keyOf keys.storedOk keys.stored entries.holds entries.live entries.swept table.sweep places.place places.opened state.assembledOk state.cachedOk state.recordedOk state.stateOk step.badForm step.notNext step.lengthMet step.onward step.taken step.onSplice step.block1Given step.onNegotiated step.stepRequest step.chunked step.onReply step.stepResponse negotiation.negotiated negotiation.within negotiation.replyAt chunk.chunkOf value.made value.largestPower pieces.spliceOf pieces.spliced pieces.pieceAfter memory.patch memory.part memory.pieceOf memory.putPiece
 can-be-given =
     record {
       one = given-one;

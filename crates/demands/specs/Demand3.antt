@@ -17,9 +17,10 @@ use Rattle.block_state.specs.declared.Config.{Config}
 use Rattle.block_state.specs.declared.Answer.{Answer}
 use Rattle.block_state.specs.Message.{Request, What, request, response, WhatBytes}
 use Rattle.block_state.specs.Answers.{said, continue, handed}
-use Rattle.block_table.specs.declared.Entry.{Entry}
-use Rattle.block_table.specs.Keys.{same}
-use Rattle.block_table.specs.Table.{holds, live, at}
+use Rattle.entries.specs.declared.Entry.{Entry}
+use Rattle.keys.specs.Keys.{same}
+use Rattle.entries.specs.Entries.{holds, live}
+use Rattle.block_table.specs.Table.{at}
 use Rattle.block_handler.specs.Call.{World, Call, Done, withinLimits}
 use Rattle.answers.specs.Parts.{bodyOf}
 

@@ -17,8 +17,8 @@ use Rattle.block_state.specs.declared.Answer.the-variants.{Continue, Handed}
 use Rattle.block_state.specs.Message.{Request}
 use Rattle.block_state.specs.State.{assembly, nothing, withAssembled}
 use Rattle.block_state.specs.Step.{Left, bytesFrom, stepRequest}
-use Rattle.block_table.specs.Keys.{stored}
-use Rattle.block_table.specs.Table.{inUse, free}
+use Rattle.keys.specs.Keys.{stored}
+use Rattle.entries.specs.Entries.{inUse, free}
 use Rattle.block_handler.specs.Call.{World, Call, call}
 use Rattle.demands.specs.Demand3.{Handler, run, seenOn, Sent, callOn, block, joined, HasLive, Push, HandsOn}
 

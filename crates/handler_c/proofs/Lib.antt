@@ -1,1 +1,1 @@
-pub mod Shown
+mod Storing

@@ -2,8 +2,8 @@
 use mathlib.Core.Path.{_≡_}
 use Rattle.block_state.specs.declared.Config.{Config}
 use Rattle.block_handler.specs.Call.{World, Call, call}
-use Rattle.handler_c.specs.declared.Reply.{Reply}
-use Rattle.handler_c.specs.Reply.{replyOf}
+use Rattle.replies.specs.declared.Reply.{Reply}
+use Rattle.replies.specs.Reply.{replyOf}
 
 -- From this table and these memories, the call leaves those and answers with these numbers.
 abbrev pub Replies : Config → World → Call → World → Reply → Type 0

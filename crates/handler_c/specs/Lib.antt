@@ -1,3 +1,2 @@
-pub mod Reply
-pub mod Found
+pub mod Options
 pub mod Contract

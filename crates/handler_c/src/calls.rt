@@ -1,10 +1,9 @@
-// The two calls on a table by value, with the answer in numbers.
+// What the two calls change of a table by value, with the answer in numbers.
 use crate::Outcome;
-use crate::numbers;
 use block_state::Config;
 use block_table::Table;
 ghost use mathlib.Core.Path.{_≡_};
-ghost use Rattle.block_handler.specs.Contract.{world, requestCall, responseCall};
+ghost use Rattle.block_handler.specs.Contract.{world, requestCall, responseCall, changed};
 ghost use Rattle.handler_c.specs.Contract.{Replies};
 
 pub fn request<'a>(
@@ -21,9 +20,9 @@ pub fn request<'a>(
     block2: &'a [u8],
     payload: &'a [u8],
 ) -> Outcome
-    ensures { λ r. ⌜ Replies config (world table (now (upload .entry)) (now (response .entry))) (requestCall time (now (key .entry)) bare given1 (now (block1 .entry)) given2 (now (block2 .entry)) (now (payload .entry))) (world (r .table) (now (upload .exit)) (now (response .entry))) (r .reply) ⌝ }
+    ensures { λ r. ⌜ Replies config (world table (now (upload .entry)) (now (response .entry))) (requestCall time (now (key .entry)) bare given1 (now (block1 .entry)) given2 (now (block2 .entry)) (now (payload .entry))) (world (changed (config .lifetime) time table (r .change)) (now (upload .exit)) (now (response .entry))) (r .reply) ⌝ }
 {
-    let out = block_handler::intercept_request(
+    let change = block_handler::request_change(
         config,
         table,
         upload,
@@ -37,11 +36,10 @@ pub fn request<'a>(
         block2,
         payload,
     );
-    let next = out.table;
-    let answer = out.answer;
+    let answer = change.answer;
     Outcome {
-        table: next,
-        reply: numbers::reply_of(answer),
+        reply: replies::reply_of(answer),
+        change,
     }
 }
 
@@ -57,9 +55,9 @@ pub fn response<'a>(
     head: &'a [u8],
     payload: &'a [u8],
 ) -> Outcome
-    ensures { λ r. ⌜ Replies config (world table (now (upload .entry)) (now (response .entry))) (responseCall time (now (key .entry)) bare own (now (head .entry)) (now (payload .entry))) (world (r .table) (now (upload .entry)) (now (response .exit))) (r .reply) ⌝ }
+    ensures { λ r. ⌜ Replies config (world table (now (upload .entry)) (now (response .entry))) (responseCall time (now (key .entry)) bare own (now (head .entry)) (now (payload .entry))) (world (changed (config .lifetime) time table (r .change)) (now (upload .entry)) (now (response .exit))) (r .reply) ⌝ }
 {
-    let out = block_handler::intercept_response(
+    let change = block_handler::response_change(
         config,
         table,
         upload,
@@ -71,10 +69,9 @@ pub fn response<'a>(
         head,
         payload,
     );
-    let next = out.table;
-    let answer = out.answer;
+    let answer = change.answer;
     Outcome {
-        table: next,
-        reply: numbers::reply_of(answer),
+        reply: replies::reply_of(answer),
+        change,
     }
 }

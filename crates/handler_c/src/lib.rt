@@ -1,53 +1,21 @@
 // The handler for programs in C and Rust: its calls on a table and memories that the caller owns, with answers as numbers.
+use block_handler::Change;
 use block_state::Config;
-use block_state::Part;
 use block_table::Table;
 use block_value::BlockValue;
 use block_value::Reading;
+use replies::Block;
+use replies::Found;
+use replies::Reply;
 ghost use mathlib.Core.Path.{_≡_};
 ghost use Rattle.block_value.specs.Value.{readOf, written};
 ghost use Rattle.block_table.specs.Table.{freshTable};
 ghost use Rattle.block_handler.specs.Contract.{world, requestCall, responseCall};
-ghost use Rattle.handler_c.specs.Reply.{blockRead, inTwoBytes};
-ghost use Rattle.handler_c.specs.Found.{foundIn, bodyIn, servedHeadIn, chunkIn, sentIn};
+ghost use Rattle.replies.specs.Found.{foundIn, bodyIn, servedHeadIn, chunkIn, sentIn};
+ghost use Rattle.handler_c.specs.Options.{blockRead, inTwoBytes};
 ghost use Rattle.handler_c.specs.Contract.{Replies};
 
 mod calls;
-mod numbers;
-
-// A block value, or none: all zeros.
-#[repr(C)]
-pub struct Block {
-    pub given: bool,
-    pub more: bool,
-    pub exponent: u8,
-    pub num: u32,
-}
-
-// An answer in numbers.
-#[repr(C)]
-pub struct Reply {
-    // 0 Refused, 1 Continue, 2 TooLarge, 3 Handed, 4 Pass, 5 Served, 6 Plain, 7 Whole, 8 First.
-    pub kind: u8,
-    // 1 to 10 for a refusal, else 0.
-    pub refusal: u8,
-    // The response code of an answer that has one, else 0.
-    pub code: u8,
-    pub block1: Block,
-    pub block2: Block,
-    // The body of Handed, or the chunk of Served, Whole and First.
-    pub part: Part,
-    // The head of Served.
-    pub head: Part,
-}
-
-// Where bytes stand that an answer shows: from..to of the message's payload (1) or of a lent memory (2). Nothing to show is 0.
-#[repr(C)]
-pub struct Found {
-    pub place: u8,
-    pub from: usize,
-    pub to: usize,
-}
 
 // An option's bytes: the first len of them; the others are 0.
 #[repr(C)]
@@ -56,10 +24,10 @@ pub struct OptionBytes {
     pub bytes: [u8; 2],
 }
 
-// What a call leaves of the table, and its answer in numbers.
+// A call's answer in numbers, and what it changes of the table.
 pub struct Outcome {
-    pub table: Table,
     pub reply: Reply,
+    pub change: Change,
 }
 
 #[no_mangle]
@@ -86,9 +54,9 @@ pub extern "C" fn block_handler_read(option: &[u8]) -> Block
     ensures { λ r. ⌜ r ≡ blockRead (readOf (now (option .entry))) ⌝ }
 {
     let Reading::Value(block) = block_value::read(option) else {
-        return numbers::no_block();
+        return replies::no_block();
     };
-    numbers::given(block)
+    replies::given(block)
 }
 
 #[no_mangle]
@@ -112,7 +80,7 @@ pub extern "C" fn block_handler_write(num: u32, more: bool, exponent: u8) -> Opt
 pub extern "C" fn block_handler_body(reply: Reply, payload: usize, upload: usize) -> Found
     ensures { λ r. ⌜ r ≡ foundIn (bodyIn reply) payload upload ⌝ }
 {
-    numbers::found_in(numbers::body_in(reply), payload, upload)
+    replies::found_in(replies::body_in(reply), payload, upload)
 }
 
 // The head that a served chunk goes out under, of a response memory of this length.
@@ -120,14 +88,14 @@ pub extern "C" fn block_handler_body(reply: Reply, payload: usize, upload: usize
 pub extern "C" fn block_handler_served_head(reply: Reply, response: usize) -> Found
     ensures { λ r. ⌜ r ≡ foundIn (servedHeadIn reply) response response ⌝ }
 {
-    numbers::found_in(numbers::head_in(reply), response, response)
+    replies::found_in(replies::served_head_in(reply), response, response)
 }
 
 #[no_mangle]
 pub extern "C" fn block_handler_served_chunk(reply: Reply, response: usize) -> Found
     ensures { λ r. ⌜ r ≡ foundIn (chunkIn reply) response response ⌝ }
 {
-    numbers::found_in(numbers::chunk_in(reply), response, response)
+    replies::found_in(replies::chunk_in(reply), response, response)
 }
 
 // What a response sends of its own payload, which has this length.
@@ -135,7 +103,7 @@ pub extern "C" fn block_handler_served_chunk(reply: Reply, response: usize) -> F
 pub extern "C" fn block_handler_sent(reply: Reply, payload: usize) -> Found
     ensures { λ r. ⌜ r ≡ foundIn (sentIn reply) payload payload ⌝ }
 {
-    numbers::found_in(numbers::sent_in(reply), payload, payload)
+    replies::found_in(replies::sent_in(reply), payload, payload)
 }
 
 // A request, before the application sees it: intercept_request in the Rust.
@@ -171,7 +139,7 @@ pub extern "C" fn block_handler_request<'a>(
         block2,
         payload,
     );
-    *table = out.table;
+    lent_table::store_change(table, config.lifetime, time, out.change);
     out.reply
 }
 
@@ -204,6 +172,6 @@ pub extern "C" fn block_handler_response<'a>(
         head,
         payload,
     );
-    *table = out.table;
+    lent_table::store_change(table, config.lifetime, time, out.change);
     out.reply
 }

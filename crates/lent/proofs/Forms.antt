@@ -1,7 +1,7 @@
 -- The laws that the covered functions use, by their branches. Assumes nothing.
-use Prim.Native.Nat.{ℕ, _≤_, _<_, _^_}
-use mathlib.Core.Bool.{Bool, true, false, _&&_}
-use mathlib.Core.Path.{_≡_, refl, sym}
+use Prim.Native.Nat.{ℕ, _≤_, _<_}
+use mathlib.Core.Bool.{Bool, true, false}
+use mathlib.Core.Path.{_≡_}
 use mathlib.Core.List.{List}
 use native.Mathlib.Omega.{arith}
 use lib.ListN.{length}
@@ -13,9 +13,9 @@ use Rattle.block_state.specs.Step.{stepRequest}
 use Rattle.block_state.specs.Contract.{Room}
 use Rattle.block_state.proofs.Tests.{ands}
 use Rattle.block_state.proofs.Fits.{StateFits, state-fits, assembled-most}
-use Rattle.block_table.specs.declared.Entry.{Entry}
-use Rattle.block_table.specs.Keys.{same, keyOf}
-use Rattle.block_table.specs.Table.{holds}
+use Rattle.keys.specs.Keys.{same, keyOf}
+use Rattle.entries.specs.declared.Entry.{Entry}
+use Rattle.entries.specs.Entries.{holds}
 use Rattle.lent.specs.declared.Seen.{Seen}
 use Rattle.lent.specs.Lent.{Lent, lent, roomFor, touched, requestLent}
 use Rattle.lent.specs.Row.{seenAs}

@@ -9,9 +9,10 @@ use lib.ListN.{length, set, getD, take}
 use lib.Seq.{take-all}
 use lib.Dec.{ltb}
 use borrow.Author.Tests.{lt-ltb, le-ltb, ltb-true, ltb-false}
-use Rattle.block_table.specs.declared.Entry.{Entry}
-use Rattle.block_table.specs.Lists.{find}
-use Rattle.block_table.specs.Table.{holds, unused, place}
+use Rattle.entries.specs.declared.Entry.{Entry}
+use Rattle.keys.specs.Lists.{find}
+use Rattle.entries.specs.Entries.{holds, unused}
+use Rattle.places.specs.Places.{place}
 use Rattle.lent.specs.declared.Seen.{Seen}
 use Rattle.lent.specs.Row.{firstOf, seenAs, seenNext}
 

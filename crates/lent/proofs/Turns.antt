@@ -26,16 +26,16 @@ use denote.Triple.Spec.{tripleOf}
 use denote.Triple.Statement.{Contract, Triple}
 use denote.Triple.Call.{calls-at}
 use denote.Triple.Clauses.{ensured, lasts}
-use Rattle.block_table.specs.declared.Entry.{Entry}
-use Rattle.block_table.specs.Table.{swept}
-use Rattle.block_table.proofs.Entry as T
-use Rattle.block_table.proofs.Entry.Laws as T′
+use Rattle.entries.specs.declared.Entry.{Entry}
+use Rattle.entries.specs.Entries.{swept}
+use Rattle.entries.proofs.Entry as T
+use Rattle.entries.proofs.Entry.Laws as T′
 use Rattle.lent.specs.declared.Seen.{Seen}
 use Rattle.lent.specs.Row.{seenNext}
 use Rattle.lent.proofs.Seen as Q
 use Rattle.lent.proofs.Seen.Laws as Q′
-use Rattle.block_table.proofs.swept_entry as s
-use Rattle.block_table.proofs.swept_entry.Symbol.{name as #swept}
+use Rattle.entries.proofs.swept_entry as s
+use Rattle.entries.proofs.swept_entry.Symbol.{name as #swept}
 use Rattle.lent.proofs.see as g
 use Rattle.lent.proofs.see.Symbol.{name as #see}
 

@@ -10,8 +10,8 @@ use Rattle.block_state.specs.declared.Answer.the-variants.{Refused}
 use Rattle.block_state.specs.Message.{Request}
 use Rattle.block_state.specs.State.{stateOk}
 use Rattle.block_state.specs.Step.{Left, stepRequest}
-use Rattle.block_table.specs.declared.Entry.{Entry}
-use Rattle.block_table.specs.Table.{inUse}
+use Rattle.entries.specs.declared.Entry.{Entry}
+use Rattle.entries.specs.Entries.{inUse}
 
 -- What a call leaves of the entry and of its piece, and what it answers.
 pub record Lent : Type 0 where
@@ -23,7 +23,7 @@ abbrev pub lent : Entry → List ℕ → Answer → Lent
 lent e piece a = record { entry = e; piece = piece; answer = a }
 
 -- The entry is in use, was not touched later, and its state is within the limits; the piece, of n bytes, is of the configuration's size, and no
--- place in a memory overflows. The limits of the configuration and of the message are checked by whoever lends the entry.
+-- place in a memory overflows. The checks of a call are made by whoever lends the entry, and imply all this (`proofs/Same.antt`).
 unfoldable pub roomFor : Config → ℕ → ℕ → ℕ → Entry → ℕ → Bool
 roomFor c home away time e n =
     eqb n (c .upload) && ltb n 4294967296 && e .used && leb (e .touched) time && stateOk c (e .state) && ltb home 4294967296 && ltb away 4294967296

@@ -3,8 +3,8 @@ use Prim.Native.Nat.{ℕ}
 use mathlib.Core.Bool.{Bool, cond}
 use mathlib.Core.List.{List}
 use lib.Dec.{ltb}
-use Rattle.block_table.specs.declared.Entry.{Entry}
-use Rattle.block_table.specs.Table.{holds, unused}
+use Rattle.entries.specs.declared.Entry.{Entry}
+use Rattle.entries.specs.Entries.{holds, unused}
 use Rattle.lent.specs.declared.Seen.{Seen}
 
 -- The first that passes of the entries up to i, `next` if none does, from the first that passes of those before it.

@@ -1,10 +1,12 @@
 // The lent forms of document 01: one key's entry by `&mut`, and the table's entries as a lent row.
 use block_state::Answer;
 use block_state::Config;
-use block_table::Entry;
+use entries::Entry;
 ghost use mathlib.Core.Path.{_≡_};
 ghost use Rattle.block_state.specs.Contract.{asking};
-ghost use Rattle.block_table.specs.Table.{holds, sweep, place};
+ghost use Rattle.entries.specs.Entries.{holds};
+ghost use Rattle.block_table.specs.Table.{sweep};
+ghost use Rattle.places.specs.Places.{place};
 ghost use Rattle.lent.specs.Lent.{lent, roomFor, requestLent};
 ghost use Rattle.lent.specs.Row.{firstOf, seenNext};
 
@@ -92,8 +94,9 @@ fn step_request<'a>(
     }
 }
 
-// A request on an entry that is lent, in use for its key (a new key's by `block_table::start_from`): its state is stepped, and it is touched. `home` and
-// `away` are where the key's two pieces begin. The limits of the configuration and of the message are the caller's to check.
+// A request on an entry that is lent, in use for its key: as `find_and_free` left it, or a new key's by `entries::start_from`. Its state is stepped, and it is
+// touched. `home` and `away` are where the key's two pieces begin. The checks of a call (limits, clock, expiry, place) are the caller's to make first:
+// then nothing is refused here that a call would not refuse.
 pub fn request<'a>(
     e: &mut Entry,
     config: Config,
@@ -129,19 +132,13 @@ pub fn request<'a>(
     out.answer
 }
 
-fn size(x: u8) -> usize
-    ensures { λ r. ⌜ r ≡ x ⌝ }
-{
-    x as usize
-}
-
 fn holds_key(e: Entry, key: &[u8]) -> bool
     ensures { λ r. ⌜ r ≡ holds (now (key .entry)) e ⌝ }
 {
     if e.used {
         let stored = e.key;
         let bytes = stored.bytes;
-        return block_table::same_key(key, bytes, size(stored.len));
+        return keys::same_key(key, bytes, keys::size(stored.len));
     }
     false
 }
@@ -180,7 +177,7 @@ fn see(seen: Seen, i: usize, next: usize, e: Entry, key: &[u8]) -> Seen
 }
 
 // The walk over a lent row of sixteen entries: frees every entry that is not live, and gives the place of the key among those that are left, or 16.
-// The clock is the caller's to check; of a row of another length the place means nothing.
+// Check 1 and the clock are the caller's to see to first. Of a row of another length the place means nothing, and may be no entry's.
 pub fn find_and_free(entries: &mut [Entry], lifetime: u64, time: u64, key: &[u8]) -> usize
     ensures { λ r. ⌜ (now (entries .exit) ≡ sweep lifetime time (now (entries .entry))) × (r ≡ place (now (key .entry)) (sweep lifetime time (now (entries .entry)))) ⌝ }
 {
@@ -191,7 +188,7 @@ pub fn find_and_free(entries: &mut [Entry], lifetime: u64, time: u64, key: &[u8]
     };
     let mut i = 0;
     while i < entries.len() {
-        let left = block_table::swept_entry(entries[i], lifetime, time);
+        let left = entries::swept_entry(entries[i], lifetime, time);
         entries[i] = left;
         let next = i + 1;
         seen = see(seen, i, next, left, key);

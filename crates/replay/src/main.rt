@@ -1,5 +1,5 @@
 // A script of any length on standard input, with lines that start afresh and lines that show the state.
-use runner::buffers;
+use script_state::buffers;
 ghost use mathlib.Core.Path.{_≡_};
 ghost use mathlib.Core.Bool.{cond};
 ghost use Prim.Native.Nat.{_-_, _≤_, _<_};
@@ -42,7 +42,7 @@ fn run(
     requires { ⌜ (length (now key) ≡ 100000) × (length (now first) ≡ 100000) × (length (now second) ≡ 100000) × (length (now payload) ≡ 100000) ⌝ }
     requires { ⌜ (1048576 ≤ length (now upload)) × (1048576 ≤ length (now response)) × (2200000 ≤ length (now out)) ⌝ }
 {
-    let begun = runner::start(out);
+    let begun = script_state::start(out);
     let mut state = begun.state;
     let mut at = begun.at;
     let mut held = 0;
@@ -64,7 +64,7 @@ fn run(
         );
         state = rest.state;
         at = rest.at;
-        held = runner::keep(text, rest.from, end);
+        held = script_state::keep(text, rest.from, end);
         end = read_on(text, held);
         turns = turns_left(turns, held, end);
     }
@@ -81,7 +81,7 @@ fn run(
         out,
         at,
     );
-    runner::print(out, last.at);
+    script_state::print(out, last.at);
 }
 
 fn main() {

@@ -9,7 +9,8 @@ use Rattle.answers.specs.Parts.{partOf}
 use Rattle.block_handler.specs.Call.{World, Done, call}
 use Rattle.block_handler.specs.Contract.{requestCall, responseCall}
 use Rattle.script.specs.Line.{Said, request, response, unreadable}
-use Rattle.script_text.specs.Text.{Put, answerText, unreadableText}
+use Rattle.answer_text.specs.Answer.{answerText, unreadableText}
+use Rattle.script_text.specs.Text.{Put}
 
 -- The body or chunk that an answer shows: of the message's payload, the upload memory or the response memory.
 abbrev pub shownOf : Answer → List ℕ → List ℕ → List ℕ → List ℕ

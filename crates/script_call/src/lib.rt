@@ -11,7 +11,8 @@ ghost use Prim.Native.Nat.{_+_, _*_, _≤_};
 ghost use lib.ListN.{length};
 ghost use Rattle.block_handler.specs.Contract.{world};
 ghost use Rattle.script.specs.Line.{InBuffers, saidBy, lineOf};
-ghost use Rattle.script_text.specs.Text.{Put, answerText};
+ghost use Rattle.answer_text.specs.Answer.{answerText};
+ghost use Rattle.script_text.specs.Text.{Put};
 ghost use Rattle.script_call.specs.Run.{shownOf, Runs};
 
 // What a line leaves: the table, and where the next output goes.
@@ -55,7 +56,7 @@ fn print<'a>(
 {
     let answer = outcome.answer;
     let bytes = shown(answer, payload, upload, response);
-    let next = script_text::put_answer(out, at, n, answer, bytes);
+    let next = answer_text::put_answer(out, at, n, answer, bytes);
     let table = outcome.table;
     Ran { table, at: next }
 }
@@ -192,7 +193,7 @@ pub fn run_line(
             at,
         ),
         Line::Unreadable => {
-            let next = script_text::put_unreadable(out, at, n);
+            let next = answer_text::put_unreadable(out, at, n);
             Ran { table, at: next }
         }
     }

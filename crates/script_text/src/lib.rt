@@ -1,12 +1,100 @@
-// What is written: decimals, hex, block values, and the line of an answer, put into a lent buffer.
-mod answer;
-mod text;
+// Text put into a lent buffer at an index; each answers the next index.
+use block_value::BlockValue;
+ghost use mathlib.Core.List.{_∷_, []};
+ghost use mathlib.Core.Path.{_≡_};
+ghost use Prim.Native.Nat.{_+_, _*_, _%_, _<_, _≤_};
+ghost use lib.ListN.{length};
+ghost use Rattle.script_text.specs.Text.{Put, decimal, hexDigit, hex, shown, blockText, digitOf};
 
-pub use answer::put_answer;
-pub use answer::put_unreadable;
-pub use text::put;
-pub use text::put_block;
-pub use text::put_byte;
-pub use text::put_decimal;
-pub use text::put_hex;
-pub use text::put_shown;
+pub fn put(out: &mut [u8], at: usize, bytes: &[u8]) -> usize
+    requires { ⌜ at + length (now bytes) ≤ length (now out) ⌝ }
+    ensures { λ r. ⌜ Put (now (out .entry)) at (now (bytes .entry)) (now (out .exit)) r ⌝ }
+{
+    pieces::copy_in(out, at, bytes);
+    at + bytes.len()
+}
+
+pub fn put_byte(out: &mut [u8], at: usize, byte: u8) -> usize
+    requires { ⌜ at < length (now out) ⌝ }
+    ensures { λ r. ⌜ Put (now (out .entry)) at (byte ∷ []) (now (out .exit)) r ⌝ }
+{
+    out[at] = byte;
+    at + 1
+}
+
+fn last_digit(n: u64) -> u8
+    ensures { λ r. ⌜ r ≡ 48 + n % 10 ⌝ }
+{
+    48 + (n % 10) as u8
+}
+
+// The digits before the last come first, so no digit moves.
+pub fn put_decimal(out: &mut [u8], at: usize, n: u64) -> usize
+    requires { ⌜ at + 20 ≤ length (now out) ⌝ }
+    ensures { λ r. ⌜ Put (now (out .entry)) at (decimal n) (now (out .exit)) r ⌝ }
+    ensures { λ r. ⌜ r ≤ at + 20 ⌝ }
+{
+    if n < 10 {
+        return put_byte(out, at, last_digit(n));
+    }
+    let next = put_decimal(out, at, n / 10);
+    put_byte(out, next, last_digit(n))
+}
+
+fn hex_digit(d: u8) -> u8
+    requires { ⌜ d < 16 ⌝ }
+    ensures { λ r. ⌜ r ≡ hexDigit d ⌝ }
+{
+    if d < 10 {
+        return 48 + d;
+    }
+    87 + d
+}
+
+pub fn put_hex(out: &mut [u8], at: usize, bytes: &[u8]) -> usize
+    requires { ⌜ at + 2 * length (now bytes) ≤ length (now out) ⌝ }
+    ensures { λ r. ⌜ Put (now (out .entry)) at (hex (now (bytes .entry))) (now (out .exit)) r ⌝ }
+    ensures { λ r. ⌜ r ≡ at + 2 * length (now (bytes .entry)) ⌝ }
+{
+    let mut i: usize = 0;
+    let mut k = at;
+    while i < bytes.len() {
+        let b = bytes[i];
+        out[k] = hex_digit(b / 16);
+        out[k + 1] = hex_digit(b % 16);
+        k += 2;
+        i += 1;
+    }
+    k
+}
+
+// Hex, and a dot where there are no bytes.
+pub fn put_shown(out: &mut [u8], at: usize, bytes: &[u8]) -> usize
+    requires { ⌜ at + 2 * length (now bytes) + 1 ≤ length (now out) ⌝ }
+    ensures { λ r. ⌜ Put (now (out .entry)) at (shown (now (bytes .entry))) (now (out .exit)) r ⌝ }
+    ensures { λ r. ⌜ r ≤ at + 2 * length (now (bytes .entry)) + 1 ⌝ }
+{
+    if bytes.len() == 0 {
+        return put_byte(out, at, b'.');
+    }
+    put_hex(out, at, bytes)
+}
+
+fn digit_of(b: bool) -> u8
+    ensures { λ r. ⌜ r ≡ digitOf b ⌝ }
+{
+    if b { b'1' } else { b'0' }
+}
+
+// num/more/size
+pub fn put_block(out: &mut [u8], at: usize, block: BlockValue) -> usize
+    requires { ⌜ at + 50 ≤ length (now out) ⌝ }
+    ensures { λ r. ⌜ Put (now (out .entry)) at (blockText block) (now (out .exit)) r ⌝ }
+    ensures { λ r. ⌜ r ≤ at + 50 ⌝ }
+{
+    let k = put_decimal(out, at, block.num as u64);
+    let k = put_byte(out, k, b'/');
+    let k = put_byte(out, k, digit_of(block.more));
+    let k = put_byte(out, k, b'/');
+    put_decimal(out, k, block_value::size(block) as u64)
+}

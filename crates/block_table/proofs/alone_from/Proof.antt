@@ -3,9 +3,10 @@ use mathlib.Core.Bool.{not}
 use Prim.Native.Nat.{_-_}
 use native.Mathlib.Omega.{arith}
 use lib.ListN.{length, drop}
-use Rattle.block_table.specs.Table.{clash}
+use Rattle.entries.specs.Entries.{clash}
 use Rattle.block_table.specs.Quick.{alone}
-use Rattle.block_table.proofs.Turns.{nil, all-go, all-no, all-end}
+use Rattle.keys.proofs.Turns.{all-go, all-no, all-end}
+use Rattle.block_table.proofs.Turns.{nil}
 use borrow.Author.Needs.{needs}
 use Rattle.block_table.proofs.alone_from.Statement.{statement}
 use Rattle.block_table.proofs.alone_from.Tie as tie

@@ -3,11 +3,12 @@ use Prim.Native.Nat.{_-_, _≤_}
 use native.Mathlib.Omega.{arith}
 use lib.ListN.{length, drop}
 use borrow.Author.Tests.{not-true, not-false}
-use Rattle.block_table.specs.Lists.{all}
+use Rattle.keys.specs.Lists.{all}
 use mathlib.Core.Bool.{false≢true}
-use Rattle.block_table.specs.Table.{entryOk}
-use Rattle.block_table.specs.Quick.{sized}
-use Rattle.block_table.proofs.Turns.{nil, all-go, all-no, all-end}
+use Rattle.entries.specs.Entries.{entryOk}
+use Rattle.entries.specs.Quick.{sized}
+use Rattle.keys.proofs.Turns.{all-go, all-no, all-end}
+use Rattle.block_table.proofs.Turns.{nil}
 use borrow.Author.Needs.{needs}
 use Rattle.block_table.proofs.each_ok.Statement.{statement}
 use Rattle.block_table.proofs.each_ok.Tie as tie

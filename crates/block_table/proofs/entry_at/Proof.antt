@@ -1,7 +1,6 @@
 use mathlib.Core.Path.{_≡_}
-use Prim.Native.Nat.{_<_}
 use lib.ListN.{length}
-use Rattle.block_table.specs.Table.{free}
+use Rattle.entries.specs.Entries.{free}
 use Rattle.block_table.proofs.Turns.{nil, getD-any}
 use borrow.Author.Needs.{needs}
 use Rattle.block_table.proofs.entry_at.Statement.{statement}

@@ -6,9 +6,11 @@ use native.Mathlib.Omega.{arith}
 use lib.ListN.{length, drop, take, length-set, drop-of-length-le}
 use lib.Seq.{take-all}
 use borrow.Author.Tests.{not-true, not-false}
-use Rattle.block_table.specs.Table.{swept, sweep}
-use Rattle.block_table.proofs.Turns.{live-as, map-set, map-keep}
-use Rattle.block_table.proofs.Entries.{swept-live, swept-dead}
+use Rattle.entries.specs.Entries.{swept}
+use Rattle.block_table.specs.Table.{sweep}
+use Rattle.entries.proofs.Cases.{live-as}
+use Rattle.block_table.proofs.Turns.{map-set, map-keep}
+use Rattle.entries.proofs.Entries.{swept-live, swept-dead}
 use borrow.Author.Needs.{needs}
 use Rattle.block_table.proofs.sweep_row.Statement.{statement}
 use Rattle.block_table.proofs.sweep_row.Tie as tie

@@ -1,5 +1,5 @@
 use mathlib.Core.Path.{sym, ap, _∙_}
-use Rattle.handler_c.specs.Reply.{blockRead}
+use Rattle.handler_c.specs.Options.{blockRead}
 use borrow.Author.Needs.{needs}
 use Rattle.handler_c.proofs.block_handler_read.Statement.{statement}
 use Rattle.handler_c.proofs.block_handler_read.Tie as tie

@@ -46,20 +46,22 @@ use denote.Triple.Statement.{Triple}
 use denote.Triple.Table.{entered, cited}
 use denote.Triple.Walked.{says, Stays, stay-slice, stay-none-slice, stay-none, walkOf, goes-none, goes-none-slice, goes-slice, Walks, ends-at, walked, walk-meets}
 use denote.Exit.{yes}
-use Rattle.block_table.specs.declared.Entry.{Entry}
-use Rattle.block_table.specs.Table.{swept, sweep, place}
+use Rattle.entries.specs.declared.Entry.{Entry}
+use Rattle.entries.specs.Entries.{swept}
+use Rattle.block_table.specs.Table.{sweep}
+use Rattle.places.specs.Places.{place}
 use Rattle.block_table.proofs.Turns.{nil}
-use Rattle.block_table.proofs.Entry as T
-use Rattle.block_table.proofs.Entry.Laws as T′
+use Rattle.entries.proofs.Entry as T
+use Rattle.entries.proofs.Entry.Laws as T′
 use Rattle.lent.specs.declared.Seen.{Seen}
 use Rattle.lent.specs.Row.{seenNext}
 use Rattle.lent.proofs.Seen as Q
 use Rattle.lent.proofs.Seen.Laws as Q′
 use Rattle.lent.proofs.Sweeps.{one-more, upto, upto-length, upto-next, upto-all, upto-at, map-length, seenOf, seen-next, seen-all, bytes-fit}
 use Rattle.lent.proofs.Turns.{Swept, See, Key, sight, sweeps, sees}
-use Rattle.block_table.proofs.swept_entry.Symbol as swept-def
-use Rattle.block_table.proofs.swept_entry.Symbol.{name as #swept}
-use Rattle.block_table.proofs.swept_entry.Met as swept-thm
+use Rattle.entries.proofs.swept_entry.Symbol as swept-def
+use Rattle.entries.proofs.swept_entry.Symbol.{name as #swept}
+use Rattle.entries.proofs.swept_entry.Met as swept-thm
 use Rattle.lent.proofs.see.Symbol as see-def
 use Rattle.lent.proofs.see.Symbol.{name as #see}
 use Rattle.lent.proofs.see.Met as see-thm
@@ -264,5 +266,5 @@ find-and-free-spec 𝓤 H 𝓜 𝓖 𝓡 =
     entered 𝓤 H (tripleOf 𝓤 H (𝓖 .A) f.signature (f.spec 𝓤 H (𝓖 .A) (𝓜 .mem) (𝓡 .run)))
     (tables 𝓤 H 𝓜 𝓡 code.env .C) (tables 𝓤 H 𝓜 𝓡 code.env .Λ) #self code.function (code.unfolded 𝓤 H 𝓜 𝓡)
     (meets 𝓤 H (𝓖 .A) (givenOf 𝓤 H 𝓜 𝓖) (𝓜 .mem) (𝓡 .run) (tablesOf 𝓤 H 𝓜 (tables 𝓤 H 𝓜 𝓡 code.env))
-    (cited 𝓤 H (Swept 𝓤 H (𝓖 .A) (𝓜 .mem) (𝓡 .run)) 𝓜 𝓡 code.env #swept swept-def.routine code.calls-block-table·swept-entry (swept-thm.met 𝓤 H 𝓜 𝓖 𝓡))
+    (cited 𝓤 H (Swept 𝓤 H (𝓖 .A) (𝓜 .mem) (𝓡 .run)) 𝓜 𝓡 code.env #swept swept-def.routine code.calls-entries·swept-entry (swept-thm.met 𝓤 H 𝓜 𝓖 𝓡))
     (cited 𝓤 H (See 𝓤 H (𝓖 .A) (𝓜 .mem) (𝓡 .run)) 𝓜 𝓡 code.env #see see-def.routine code.calls-lent·see (see-thm.met 𝓤 H 𝓜 𝓖 𝓡)))

@@ -1,5 +1,5 @@
 use mathlib.Core.Path.{sym}
-use Rattle.block_table.proofs.Turns.{same-stored-as}
+use Rattle.keys.proofs.Turns.{same-stored-as}
 use Rattle.lent.proofs.Forms.{held-as, not-held}
 use borrow.Author.Needs.{needs}
 use Rattle.lent.proofs.holds_key.Statement.{statement}
@@ -12,7 +12,7 @@ same-key-requires : tie.Need-same-key-requires
 same-key-requires c κs = search needs
 
 returns : tie.Need-returns
-returns c = sym (held-as _ _ _ (c .before .before .before .before .if1 .taken) (same-stored-as _ _ _ _ (c .before .size .ensures) (c .same-key .ensures)))
+returns c = sym (held-as _ _ _ (c .before .before .before .before .if1 .taken) (same-stored-as _ _ _ _ (c .before .size .ensures .0) (c .same-key .ensures)))
 
 returns-2 : tie.Need-returns-2
 returns-2 c = sym (not-held _ _ (c .if1 .left))

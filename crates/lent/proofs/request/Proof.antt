@@ -45,9 +45,9 @@ use denote.Triple.Walked.{says, Stays, stay-ref, gave-slice, stay-none-slice, st
 use denote.Exit.{yes}
 use Rattle.block_state.specs.Contract.{asking}
 use Rattle.lent.specs.Lent.{lent, requestLent}
-use Rattle.block_table.specs.declared.Entry.{Entry}
-use Rattle.block_table.proofs.Entry as T
-use Rattle.block_table.proofs.Entry.Laws as T′
+use Rattle.entries.specs.declared.Entry.{Entry}
+use Rattle.entries.proofs.Entry as T
+use Rattle.entries.proofs.Entry.Laws as T′
 use Rattle.block_state.specs.declared.Config.{Config}
 use Rattle.block_state.proofs.Config as K
 use Rattle.block_state.proofs.Config.Laws as K′
@@ -159,8 +159,8 @@ module _ {M : Type 1} (𝓤 : URA M) (H : Heap 𝓤) (A : Atoms 𝓤) (W : Given
         split ! $ move ! (1 ∷ []) $ use1 W (some (λ (zs : Unit {0} × (Unit {0} × (Unit {0} × (Unit {0} × (Unit {0} × (List ℕ × (Unit {0} × (Unit {0} × (Unit {0} × (Unit {0} × (Unit {0} × (Unit {0} × Unit {0})))))))))))). ‵ (lasts g.ended (κ-piece, (κ-a, tt)) (h, (config, (home, (away, (time, (piece, (bare, (given1, (block1, (given2, (block2, (payload, tt)))))))))))) zs) ⊛ raw (fact 𝓤 (Said r (zs .1 .1 .1 .1 .1 .0))))) (id⊢ 𝓤 _) $ pick ! (λ zs. split ! $ move ! (1 ∷ []) $ heard ! (Said r (zs .1 .1 .1 .1 .1 .0)) (λ e.
         fsplit ! $ drop ! $ fsplit ! $ drop ! $ fsplit ! $ drop ! $ fsplit ! $ drop ! $ fsplit ! $ drop ! $ fsplit ! $ fsplit ! $ move ! (1 ∷ []) $ feqL ! (λ l-piece. move ! (1 ∷ []) $ fsplit ! $ drop ! $ fsplit ! $ drop ! $ fsplit ! $ drop ! $ fsplit ! $ drop ! $ fsplit ! $ drop ! $ fsplit ! $ drop ! $ drop ! $ move ! (1 ∷ []) $ split ! $ move ! (1 ∷ []) $ peeks ! O.the-row (Is O.the-row) (shows 𝓤 H A O.the-row) r (v ∷ []) (λ is.
         land ! (from ! (stop !)) (init ! 14 refl (LL.lawful O.the-type O′.the-laws 𝓤 H A W .typed r _ is .0)) $ rewrite ! 14 (λ (w : Val). ‵ (fat fullShare O′.mir l14 0 w)) (ap only (LL.tells O.the-type O′.the-laws r (v ∷ []) is)) refl $
-        assigns ! (of-opd ! (load ! (from ! (fld ! refl (stop !))) (look-in ! 14 (sub ! 0 refl (whole !))))) (from ! (hop ! (look ! 40 refl) (stop !))) (store-raw ! 6 refl (LL.lawful T.the-type T′.the-laws 𝓤 H A W .typed (r .entry) _ (parts r v is .0) .0)) $
-        assigns ! (of-opd ! (load ! (from ! (fld ! refl (stop !))) (look-in ! 14 (sub ! 1 refl (whole !))))) (from ! (stop !)) (init ! 42 refl (EL.lawful S.the-type S′.the-laws 𝓤 H A W tt .typed (r .answer) _ (parts r v is .1) .0)) $
+        assigns ! (of-opd ! (load ! (from ! (fld ! {τ = T′.mir} {d = 0} refl (stop !))) (look-in ! 14 (sub ! 0 {τ = T′.mir} {d = 0} refl (whole !))))) (from ! (hop ! (look ! 40 refl) (stop !))) (store-raw ! 6 refl (LL.lawful T.the-type T′.the-laws 𝓤 H A W .typed (r .entry) _ (parts r v is .0) .0)) $
+        assigns ! (of-opd ! (load ! (from ! (fld ! {τ = S′.mir} {d = 104} refl (stop !))) (look-in ! 14 (sub ! 1 {τ = S′.mir} {d = 104} refl (whole !))))) (from ! (stop !)) (init ! 42 refl (EL.lawful S.the-type S′.the-laws 𝓤 H A W tt .typed (r .answer) _ (parts r v is .1) .0)) $
         drop ! $ owned ! T.the-row (Is T.the-row) (LL.makes T.the-type T′.the-plain 𝓤 H A) (r .entry) _ (parts r v is .0) $ move ! (6 ∷ 0 ∷ 7 ∷ 8 ∷ 9 ∷ []) $ closes ! tt T.the-row (r .entry) (mach (r .entry) ∷ []) b o $
         returns ! (look ! 40 refl) $ forget ! 40 refl $ forget ! 38 refl $ forget ! 36 refl $ forget ! 34 refl $ forget ! 32 refl $ forget ! 30 refl $ forget ! 28 refl $ forget ! 26 refl $ forget ! 24 refl $ forget ! 22 refl $ forget ! 20 refl $ forget ! 18 refl $ forget ! 16 refl $ forget ! 14 refl $ forget ! 12 refl $ forget ! 10 refl $ forget ! 8 refl $
         move ! (40 ∷ 41 ∷ []) $ free1 ! $ move ! (38 ∷ 39 ∷ []) $ free1 ! $ move ! (36 ∷ 37 ∷ []) $ free1 ! $ move ! (34 ∷ 35 ∷ []) $ free1 ! $ move ! (32 ∷ 33 ∷ []) $ free1 ! $ move ! (30 ∷ 31 ∷ []) $ free1 ! $ move ! (28 ∷ 29 ∷ []) $ free1 ! $ move ! (26 ∷ 27 ∷ []) $ free1 ! $ move ! (24 ∷ 25 ∷ []) $ free1 ! $ move ! (22 ∷ 23 ∷ []) $ free1 ! $ move ! (20 ∷ 21 ∷ []) $ free1 ! $ move ! (18 ∷ 19 ∷ []) $ free1 ! $ move ! (16 ∷ 17 ∷ []) $ free1 ! $ move ! (14 ∷ 15 ∷ []) $ free1 ! $ move ! (12 ∷ 13 ∷ []) $ free1 ! $ move ! (10 ∷ 11 ∷ []) $ free1 ! $ move ! (8 ∷ 9 ∷ []) $ free1 ! $ free0 ! $

@@ -1,6 +1,6 @@
 use Rattle.script_call.proofs.Running.{shown-short}
 use Rattle.script_text.proofs.Puts.{put-as}
-use Rattle.script_text.specs.Text.{answerText}
+use Rattle.answer_text.specs.Answer.{answerText}
 use Prim.Native.Nat.{ℕ}
 use mathlib.Core.List.{List}
 use lib.ListN.{length}

@@ -4,8 +4,9 @@ use native.Mathlib.Omega.{arith}
 use lib.ListN.{length}
 use borrow.Author.Tests.{not-true, not-false, leb-true}
 use Rattle.block_state.proofs.Tests.{ands}
-use Rattle.block_table.specs.Keys.{keyOk}
-use Rattle.block_table.proofs.Entries.{place-most, length-sweep}
+use Rattle.keys.specs.Keys.{keyOk}
+use Rattle.block_table.proofs.Row.{length-sweep}
+use Rattle.places.proofs.Places.{place-most}
 use Rattle.block_handler.specs.declared.Verdict.the-variants.{Place}
 use Rattle.block_handler.proofs.Judged.{config-fits, off-config, off-memories, off-key, off-message, off-table, too-early, full, placed, table-off, table-on, key-short, no-place}
 use borrow.Author.Needs.{needs}

@@ -1,12 +1,12 @@
 use mathlib.Core.Path.{ap, _∙_}
 use Rattle.block_handler.specs.Call.{Done}
-use Rattle.handler_c.specs.Reply.{replyOf}
+use Rattle.replies.specs.Reply.{replyOf}
 use borrow.Author.Needs.{needs}
 use Rattle.handler_c.proofs.calls.request.Statement.{statement}
 use Rattle.handler_c.proofs.calls.request.Tie as tie
 
-intercept-request-requires : tie.Need-intercept-request-requires
-intercept-request-requires c κs = search needs
+request-change-requires : tie.Need-request-change-requires
+request-change-requires c κs = search needs
 
 reply-of-requires : tie.Need-reply-of-requires
 reply-of-requires c κs = search needs
@@ -15,8 +15,8 @@ same-length : tie.Need-same-length
 same-length c = search needs
 
 returns : tie.Need-returns
-returns c = (ap (λ (d : Done). d .world) (c .before .before .before .before .intercept-request .ensures), c .reply-of .ensures ∙ ap (λ (d : Done). replyOf (d .answer)) (c .before .before .before .before .intercept-request .ensures))
+returns c = (ap (λ (d : Done). d .world) (c .before .before .before .request-change .ensures .0), c .reply-of .ensures ∙ ap (λ (d : Done). replyOf (d .answer)) (c .before .before .before .request-change .ensures .0))
 
 pub request-spec : {M : Type 1} → statement M
 request-spec =
-    tie.close (tie.spec intercept-request-requires reply-of-requires same-length returns)
+    tie.close (tie.spec request-change-requires reply-of-requires same-length returns)

@@ -1,0 +1,99 @@
+-- The laws that the code's branches use, by their cases. Assumes nothing.
+use mathlib.Core.Path.{_≡_, refl, sym, ap, _∙_}
+use mathlib.Core.List.{List}
+use mathlib.Core.Bool.{Bool, true, false, not, cond, _&&_}
+use Prim.Native.Nat.{ℕ, _-_}
+use lib.ListN.{length, replicate}
+use lib.Dec.{ltb}
+use borrow.Author.Tests.{eq-eqb, eqb-true}
+use Rattle.block_state.specs.declared.Config.{Config}
+use Rattle.block_state.specs.declared.BlockState.{BlockState}
+use Rattle.block_state.specs.State.{nothing, isNothing}
+use Rattle.entries.specs.declared.Entry.{Entry}
+use Rattle.keys.specs.Keys.{same, keyOf, isNoKey}
+use Rattle.entries.specs.Entries.{free, holds, live, swept, unused, entryOk}
+use Rattle.entries.proofs.Entries.{live-used, swept-live, swept-dead}
+use Rattle.block_state.proofs.Tests.{ands}
+use Rattle.entries.specs.Quick.{holdsLive, notLive, sized, unexpired}
+use Rattle.keys.proofs.Turns.{zeros}
+
+-- ---- expiry
+
+module _ (lifetime time : ℕ) (e : Entry) where
+  pub live-as : (b : Bool) → b ≡ (e .used && ltb (time - e .touched) lifetime) → live lifetime time e ≡ b
+  unfolding live
+  live-as b h = sym h
+
+module _ (lifetime time : ℕ) (k : List ℕ) (e : Entry) where
+  pub held-expired : live lifetime time e ≡ false → holdsLive lifetime time k e ≡ false
+  unfolding holdsLive
+  held-expired h = rw h
+
+  pub held-as : (b : Bool) → live lifetime time e ≡ true → same k (keyOf (e .key)) ≡ b → holdsLive lifetime time k e ≡ b
+  unfolding holdsLive
+  held-as b h s = rw (h, s)
+
+-- an entry that is not expired, by what the code tests
+pub unexpired-as : (lifetime time : ℕ) (e : Entry) (b : Bool) → b ≡ (e .used && not (ltb (time - e .touched) lifetime)) → unexpired lifetime time e ≡ not b
+unfolding unexpired
+unexpired-as lifetime time e b h = ap not (sym h)
+
+no : (b : Bool) → not b ≡ true → b ≡ false
+no true h = sym h
+no false h = refl
+
+nothing-is : (s : BlockState) → isNothing s ≡ true → s ≡ nothing
+unfolding isNothing
+nothing-is s h = λ k. record {
+  assembled = record { len = eqb-true (s .assembled .len) 0 (search ands depth 12) k; exponent = eqb-true (s .assembled .exponent) 0 (search ands depth 12) k };
+  cached = record { held = no (s .cached .held) (search ands depth 12) k; head = eqb-true (s .cached .head) 0 (search ands depth 12) k; payload = eqb-true (s .cached .payload) 0 (search ands depth 12) k };
+  recorded = record { given = no (s .recorded .given) (search ands depth 12) k; more = no (s .recorded .more) (search ands depth 12) k; exponent = eqb-true (s .recorded .exponent) 0 (search ands depth 12) k; num = eqb-true (s .recorded .num) 0 (search ands depth 12) k };
+}
+
+pub sized-used : (e : Entry) → e .used ≡ true → sized e ≡ true
+unfolding sized
+sized-used e u = rw u
+
+pub sized-free : (e : Entry) → e .used ≡ false → length (e .key .bytes) ≡ 64 → sized e ≡ true
+unfolding sized
+sized-free e u long = rw (u, eq-eqb (length (e .key .bytes)) 64 long)
+
+-- a free entry within the limits is zeros
+module _ (c : Config) (clock : ℕ) where
+  free-is : (e : Entry) → e .used ≡ false → entryOk c clock e ≡ true → length (e .key .bytes) ≡ 64 → e ≡ free
+  unfolding entryOk isNoKey
+  free-is e u h long =
+      let ok = rw u at h in
+      let z : e .key .bytes ≡ replicate 64 0 = zeros (e .key .bytes) (search ands depth 12) ∙ ap (λ (n : ℕ). replicate n 0) long in
+      λ k. record { key = record { bytes = z k; len = eqb-true (e .key .len) 0 (search ands depth 12) k }; used = u k; touched = eqb-true (e .touched) 0 (search ands depth 12) k; state = nothing-is (e .state) (search ands depth 12) k }
+
+  -- where nothing is expired a sweep leaves the entry as it is
+  pub kept-by : (lifetime time : ℕ) (e : Entry) (b : Bool) → e .used ≡ b → entryOk c clock e ≡ true → sized e ≡ true → unexpired lifetime time e ≡ true → swept lifetime time e ≡ e
+  unfolding sized unexpired live
+  kept-by lifetime time e true u h z x =
+      swept-live lifetime time e (rw u (no-no (ltb (time - e .touched) lifetime) (rw u at x)))
+    where
+      no-no : (b : Bool) → not (not b) ≡ true → b ≡ true
+      no-no true h = refl
+      no-no false h = h
+  kept-by lifetime time e false u h z x =
+      swept-dead lifetime time e (rw u) ∙ sym (free-is e u h (eqb-true (length (e .key .bytes)) 64 (rw u at z)))
+
+-- ---- what a swept entry holds, seen before the sweep
+
+held-by : (k : List ℕ) (e : Entry) (b : Bool) → (b ≡ true → e .used ≡ true) → holds k (cond b e free) ≡ (b && same k (keyOf (e .key)))
+unfolding holds
+held-by k e true h = rw (h refl)
+held-by k e false h = refl
+
+pub holds-swept : (k : List ℕ) (lifetime time : ℕ) (e : Entry) → holds k (swept lifetime time e) ≡ holdsLive lifetime time k e
+unfolding swept holdsLive
+holds-swept k lifetime time e = held-by k e (live lifetime time e) (live-used lifetime time e)
+
+unused-by : (e : Entry) (b : Bool) → (b ≡ true → e .used ≡ true) → unused (cond b e free) ≡ not b
+unused-by e true h = rw (h refl)
+unused-by e false h = refl
+
+pub unused-swept : (lifetime time : ℕ) (e : Entry) → unused (swept lifetime time e) ≡ notLive lifetime time e
+unfolding swept
+unused-swept lifetime time e = unused-by e (live lifetime time e) (live-used lifetime time e)

@@ -1,0 +1,112 @@
+-- The laws that loops over keys and rows use: what one turn takes off the front of what is left. Assumes nothing.
+use mathlib.Core.Path.{_≡_, refl, sym, ap, ap₂}
+use mathlib.Core.List.{List, [], _∷_, _++_}
+use mathlib.Core.Bool.{Bool, true, false, _&&_, and-false}
+use Prim.Native.Nat.{ℕ, suc, zero, _+_, _-_, _≤_, _<_}
+use native.Mathlib.Numerals.{add-one}
+use native.Mathlib.Omega.{arith}
+use lib.ListN.{length, getD, take, drop, set, replicate, drop-of-length-le}
+use lib.Seq.{drop-cons, take-suc, append-snoc, set-at, length-take-le}
+use lib.Dec.{eqb}
+use borrow.Author.Tests.{eq-eqb, ne-eqb, eqb-true, eqb-false}
+use Rattle.keys.specs.declared.Key.{Key}
+use Rattle.keys.specs.Lists.{find, all}
+use Rattle.keys.specs.Keys.{same, keyOf}
+use Rattle.block_state.proofs.Tests.{and-left, and-right}
+
+module _ {A : Type 0} where
+  pub drop-step : (l : List A) (i : ℕ) (d : A) → i < length l → drop i l ≡ getD l i d ∷ drop (i + 1) l
+  drop-step l i d h = rw (add-one, drop-cons l i d)
+
+  module _ (p : A → Bool) (l : List A) (i : ℕ) where
+    pub all-go : (d : A) → i < length l → p (getD l i d) ≡ true → all p (drop (i + 1) l) ≡ all p (drop i l)
+    all-go d h e = rw (drop-step l i d, e)
+
+    pub all-no : (d : A) → i < length l → p (getD l i d) ≡ false → all p (drop i l) ≡ false
+    all-no d h e = rw (drop-step l i d, e)
+
+    pub all-end : length l ≤ i → all p (drop i l) ≡ true
+    all-end h = rw (drop-of-length-le l h)
+
+    pub find-go : (d : A) (n : ℕ) → i < length l → p (getD l i d) ≡ false → i + find p (drop i l) ≡ n → (i + 1) + find p (drop (i + 1) l) ≡ n
+    find-go d n h e was =
+        let f : find p (drop i l) ≡ suc (find p (drop (i + 1) l)) = rw (drop-step l i d, e) in
+        omega arith
+
+    pub find-here : (d : A) (n : ℕ) → i < length l → p (getD l i d) ≡ true → i + find p (drop i l) ≡ n → i ≡ n
+    find-here d n h e was =
+        let f : find p (drop i l) ≡ 0 = rw (drop-step l i d, e) in
+        omega arith
+
+    pub find-end : (n : ℕ) → length l ≤ i → i + find p (drop i l) ≡ n → i ≡ n
+    find-end n h was =
+        let f : find p (drop i l) ≡ 0 = rw (drop-of-length-le l h) in
+        omega arith
+
+-- ---- keys
+
+module _ (a b : List ℕ) (i : ℕ) where
+  pub same-go : i < length a → i < length b → getD a i 0 ≡ getD b i 0 → same (drop (i + 1) a) (drop (i + 1) b) ≡ same (drop i a) (drop i b)
+  unfolding same
+  same-go h k e = rw (drop-step a i 0, drop-step b i 0, eq-eqb _ _ e)
+
+  pub same-no : i < length a → i < length b → (getD a i 0 ≡ getD b i 0 → ⊥) → same (drop i a) (drop i b) ≡ false
+  unfolding same
+  same-no h k e = rw (drop-step a i 0, drop-step b i 0, ne-eqb _ _ e)
+
+  pub same-end : length a ≤ i → length b ≤ i → same (drop i a) (drop i b) ≡ true
+  unfolding same
+  same-end h k = rw (drop-of-length-le a h, drop-of-length-le b k)
+
+pub same-length : (a b : List ℕ) → (length a ≡ length b → ⊥) → same a b ≡ false
+unfolding same
+same-length [] [] n = absurd (n refl)
+same-length [] (y ∷ ys) n = refl
+same-length (x ∷ xs) [] n = refl
+same-length (x ∷ xs) (y ∷ ys) n = rw (same-length xs ys (λ e. n (ap suc e)), and-false)
+
+pub same-stored-as : (q : List ℕ) (k : Key) (n : ℕ) (b : Bool) → n ≡ k .len → b ≡ same q (take n (k .bytes)) → same q (keyOf k) ≡ b
+unfolding keyOf
+same-stored-as q k n b e h = rw (← e) (sym h)
+
+-- Bytes are all zeros exactly if their sum is 0.
+abbrev pub total : List ℕ → ℕ
+total [] = 0
+total (x ∷ xs) = x + total xs
+
+pub total-go : (l : List ℕ) (i s r a : ℕ) → i < length l → r ≡ getD l i 0 → s + total (drop i l) ≡ a → (s + r) + total (drop (i + 1) l) ≡ a
+total-go l i s r a h e was =
+    let f : total (drop i l) ≡ getD l i 0 + total (drop (i + 1) l) = rw (drop-step l i 0 h) in
+    omega arith
+
+pub total-end : (l : List ℕ) (i s a : ℕ) → length l ≤ i → s + total (drop i l) ≡ a → s ≡ a
+total-end l i s a h was =
+    let f : total (drop i l) ≡ 0 = rw (drop-of-length-le l h) in
+    omega arith
+
+zero-by : (x t : ℕ) (y z : Bool) → eqb x 0 ≡ y → eqb t 0 ≡ z → eqb (x + t) 0 ≡ (y && z)
+zero-by x t true true p q =
+    let a : x ≡ 0 = eqb-true x 0 p in
+    let b : t ≡ 0 = eqb-true t 0 q in
+    eq-eqb (x + t) 0 (omega arith)
+zero-by x t true false p q = ne-eqb (x + t) 0 (λ h. eqb-false t 0 q (omega arith))
+zero-by x t false true p q = ne-eqb (x + t) 0 (λ h. eqb-false x 0 p (omega arith))
+zero-by x t false false p q = ne-eqb (x + t) 0 (λ h. eqb-false x 0 p (omega arith))
+
+pub total-zeros : (l : List ℕ) → eqb (total l) 0 ≡ all (λ b. eqb b 0) l
+total-zeros [] = refl
+total-zeros (x ∷ xs) = zero-by x (total xs) _ (all (λ b. eqb b 0) xs) refl (total-zeros xs)
+
+pub drop-zeros : (m n : ℕ) → n ≤ m → drop {A = ℕ} n (replicate m 0) ≡ replicate (m - n) 0
+drop-zeros m zero h = let e : m - 0 ≡ m = omega arith in rw e
+drop-zeros zero (suc n) h = absurd (omega arith)
+drop-zeros (suc m) (suc n) h = let e : suc m - suc n ≡ m - n = omega arith in rw e (drop-zeros m n (omega arith))
+
+-- One more byte of a key is put in its place.
+pub pad-go : (k r : List ℕ) (i : ℕ) → i < length k → i < length r → set (take i k ++ drop i r) i (getD k i 0) ≡ take (i + 1) k ++ drop (i + 1) r
+pad-go k r i h g =
+    rw (add-one, take-suc k i 0 h, append-snoc, drop-cons r i 0 g, set-at (take i k) (getD r i 0) (drop (suc i) r) (getD k i 0) i (length-take-le i k (omega arith)))
+
+pub zeros : (l : List ℕ) → all (λ b. eqb b 0) l ≡ true → l ≡ replicate (length l) 0
+zeros [] h = refl
+zeros (x ∷ l) h = ap₂ _∷_ (eqb-true x 0 (and-left (eqb x 0) (all (λ b. eqb b 0) l) h)) (zeros l (and-right (eqb x 0) (all (λ b. eqb b 0) l) h))

@@ -1,0 +1,37 @@
+-- A key as a call names it, a list of bytes, and as an entry stores it. All that the rest uses of a key are the laws in proofs/Keys.antt.
+use Prim.Native.Nat.{ℕ, _-_}
+use mathlib.Core.Bool.{Bool, true, false, _&&_}
+use mathlib.Core.List.{List, [], _∷_, _++_}
+use lib.ListN.{length, take, replicate}
+use lib.Dec.{leb, eqb}
+use Rattle.keys.specs.declared.Key.{Key}
+use Rattle.keys.specs.Lists.{all}
+
+-- "Equal bytes, same key."
+unfoldable pub same : List ℕ → List ℕ → Bool
+same [] [] = true
+same [] (b ∷ t) = false
+same (a ∷ s) [] = false
+same (a ∷ s) (b ∷ t) = eqb a b && same s t
+
+-- "A key is 1 to 64 bytes."
+unfoldable pub keyOk : List ℕ → Bool
+keyOk k = leb 1 (length k) && leb (length k) 64
+
+-- The key that an entry stores. Bytes past its length are in no clause: they are never compared.
+unfoldable pub keyOf : Key → List ℕ
+keyOf k = take (k .len) (k .bytes)
+
+-- Off the limits: "a bad key length".
+unfoldable pub storedOk : Key → Bool
+storedOk k = leb 1 (k .len) && leb (k .len) 64
+
+unfoldable pub stored : List ℕ → Key
+stored k = record { bytes = k ++ replicate (64 - length k) 0; len = length k }
+
+-- The key of a free entry: zeros.
+abbrev pub noKey : Key
+noKey = record { bytes = replicate 64 0; len = 0 }
+
+unfoldable pub isNoKey : Key → Bool
+isNoKey k = all (λ b. eqb b 0) (k .bytes) && eqb (k .len) 0

@@ -1,0 +1,20 @@
+-- The laws of a change of one entry. Assumes nothing.
+use Prim.Native.Nat.{ℕ, _<_}
+use mathlib.Core.Bool.{Bool, true, false, not, _&&_}
+use mathlib.Core.Path.{_≡_, sym}
+use lib.ListN.{set}
+use lib.Dec.{T as Holds, ltb}
+use borrow.Author.Tests.{not-true, ltb-true}
+use Rattle.block_state.proofs.Tests.{ands}
+use Rattle.block_table.specs.declared.Table.{Table}
+use Rattle.block_handler.specs.declared.Change.{Change}
+use Rattle.block_handler.specs.Contract.{changed}
+
+module _ (g : Change) where
+  pub one-entry : (r : Bool) → r ≡ (not (g .freed) && ltb (g .at) 16) → Holds r → (g .freed ≡ false) × (g .at < 16)
+  one-entry true e h =
+      let both : (not (g .freed) && ltb (g .at) 16) ≡ true = sym e in
+      (not-true (g .freed) (search ands), ltb-true (g .at) 16 (search ands))
+
+  pub one-changed : (lifetime time : ℕ) (t : Table) → g .freed ≡ false → _≡_ {A = Table} (record { clock = g .clock; entries = set (t .entries) (g .at) (g .entry) }) (changed lifetime time t g)
+  one-changed lifetime time t e = rw e

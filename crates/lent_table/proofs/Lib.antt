@@ -1,0 +1,4 @@
+mod Cells
+mod Changes
+mod Forms
+pub mod Frees

@@ -1,0 +1,5 @@
+pub mod Places
+pub mod Unswept
+pub mod Tagged
+pub mod Cases
+pub mod Put

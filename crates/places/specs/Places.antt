@@ -1,0 +1,19 @@
+-- Document 01, "Table and clock": the place of a key, once the row is swept, and the entry that a call on it starts from.
+use Prim.Native.Nat.{ℕ}
+use mathlib.Core.Bool.{cond}
+use mathlib.Core.List.{List}
+use lib.Dec.{ltb}
+use Rattle.block_state.specs.State.{nothing}
+use Rattle.entries.specs.declared.Entry.{Entry}
+use Rattle.keys.specs.Lists.{find}
+use Rattle.keys.specs.Keys.{stored}
+use Rattle.entries.specs.Entries.{inUse, holds, unused}
+use Rattle.block_table.specs.Table.{at}
+
+-- Its own entry; else "a new key takes the lowest free entry"; else 16.
+unfoldable pub place : List ℕ → List Entry → ℕ
+place k l = cond (ltb (find (holds k) l) 16) (find (holds k) l) (find unused l)
+
+-- The entry that a call on the key starts from: the one at its place, or, if that is free, a new one, which "starts with nothing".
+unfoldable pub opened : List ℕ → List Entry → Entry
+opened k l = cond (at l (place k l) .used) (at l (place k l)) (inUse (stored k) 0 nothing)

@@ -1,3 +1,0 @@
-pub mod Controls
-pub mod Entries
-pub mod Fnv

@@ -1,0 +1,10 @@
+use mathlib.Core.Path.{refl}
+use Rattle.script_state.proofs.Zeros.{zeros-long}
+use Rattle.script_state.proofs.buffers.output.Statement.{statement}
+use Rattle.script_state.proofs.buffers.output.Tie as tie
+
+returns : tie.Need-returns
+returns c = (refl, zeros-long 2200000)
+
+pub output-spec : {M : Type 1} → statement M
+output-spec = tie.close (tie.spec returns)

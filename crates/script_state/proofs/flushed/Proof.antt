@@ -1,0 +1,17 @@
+use mathlib.Core.Path.{sym}
+use borrow.Author.Tests.{lt-ltb, le-ltb}
+use borrow.Author.Needs.{needs}
+use Rattle.script_state.proofs.flushed.Statement.{statement}
+use Rattle.script_state.proofs.flushed.Tie as tie
+
+returns : tie.Need-returns
+returns c = sym (rw (le-ltb 65536 (c .before .before .args .at) (c .if1 .taken)))
+
+print-requires : tie.Need-print-requires
+print-requires c κs = search needs
+
+returns-2 : tie.Need-returns-2
+returns-2 c = sym (rw (lt-ltb 65536 (c .before .before .before .args .at) (c .before .if1 .left)))
+
+pub flushed-spec : {M : Type 1} → statement M
+flushed-spec = tie.close (tie.spec returns print-requires returns-2)

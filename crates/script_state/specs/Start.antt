@@ -1,0 +1,19 @@
+-- Before the first line of a script.
+use Prim.Native.Nat.{ℕ}
+use mathlib.Core.Bool.{false}
+use mathlib.Core.List.{List, [], _∷_}
+use Rattle.block_state.specs.declared.Config.{Config}
+use Rattle.block_table.specs.Table.{freshTable}
+use Rattle.script_state.specs.declared.State.{State}
+
+-- `line answer block1 block2 bytes`, and a line end.
+abbrev pub header : List ℕ
+header =
+    108 ∷ 105 ∷ 110 ∷ 101 ∷ 32 ∷ 97 ∷ 110 ∷ 115 ∷ 119 ∷ 101 ∷ 114 ∷ 32 ∷ 98 ∷ 108 ∷ 111 ∷ 99 ∷ 107 ∷ 49 ∷ 32 ∷ 98 ∷ 108 ∷ 111 ∷ 99 ∷ 107 ∷ 50 ∷ 32 ∷ 98 ∷ 121 ∷ 116 ∷ 101 ∷ 115 ∷ 10 ∷ []
+
+-- "Plain mode, T 64, lifetime 120,000, U 2048, V 1024."
+abbrev pub scriptConfig : Config
+scriptConfig = record { strict = false; limit = 64; lifetime = 120000; upload = 2048; response = 1024 }
+
+abbrev pub begun : State
+begun = record { config = scriptConfig; table = freshTable; number = 0 }

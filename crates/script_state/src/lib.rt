@@ -1,0 +1,111 @@
+// Where a script stands, and what a program does around its lines: the start, the count, the text that has not ended, the output that waits.
+use block_state::Config;
+use block_table::Table;
+ghost use mathlib.Core.Path.{_≡_};
+ghost use Prim.Native.Nat.{_+_, _-_, _%_, _^_, _≤_, min};
+ghost use mathlib.Core.Bool.{cond};
+ghost use lib.Dec.{ltb};
+ghost use lib.ListN.{length};
+ghost use Rattle.pieces.specs.Memory.{patch, part};
+ghost use Rattle.script_text.specs.Text.{Put};
+ghost use Rattle.script_state.specs.Start.{scriptConfig, header, begun};
+
+pub mod buffers;
+
+// Where the script stands: the configuration, the table, and the number of the last line.
+pub struct State {
+    pub config: Config,
+    pub table: Table,
+    pub number: u64,
+}
+
+// What a line leaves, and where the next output goes.
+pub struct Step {
+    pub state: State,
+    pub at: usize,
+}
+
+// Output that is written at once.
+const MUCH: usize = 65536;
+
+// The longest line that is read, and one byte more.
+const LONG: usize = 200001;
+
+fn script_config() -> Config
+    ensures { λ r. ⌜ r ≡ scriptConfig ⌝ }
+{
+    Config {
+        strict: false,
+        limit: 64,
+        lifetime: 120000,
+        upload: 2048,
+        response: 1024,
+    }
+}
+
+// Before the first line: an empty table, and the header in the output.
+pub fn start(out: &mut [u8]) -> Step
+    requires { ⌜ 32 ≤ length (now out) ⌝ }
+    ensures { λ r. ⌜ r .state ≡ begun ⌝ }
+    ensures { λ r. ⌜ Put (now (out .entry)) 0 header (now (out .exit)) (r .at) ⌝ }
+    ensures { λ r. ⌜ r .at ≤ 65536 ⌝ }
+{
+    let at = script_text::put(out, 0, b"line answer block1 block2 bytes\n");
+    let table = block_table::fresh();
+    let config = script_config();
+    Step {
+        state: State {
+            config,
+            table,
+            number: 0,
+        },
+        at,
+    }
+}
+
+// One more line is counted.
+pub fn counted(state: State) -> State
+    ensures { λ r. ⌜ r ≡ record { config = state .config; table = state .table; number = (state .number + 1) % 2 ^ 64 } ⌝ }
+{
+    let config = state.config;
+    let table = state.table;
+    State {
+        config,
+        table,
+        number: std::num::wrapping_add_u64(state.number, 1),
+    }
+}
+
+// Writes what waits. No contract can say what is written.
+pub fn print(out: &[u8], at: usize)
+    requires { ⌜ at ≤ length (now out) ⌝ }
+{
+    io::write_all(1, &out[0..at]);
+}
+
+// Writes what waits, once it is much.
+pub fn flushed(out: &[u8], at: usize) -> usize
+    requires { ⌜ at ≤ length (now out) ⌝ }
+    ensures { λ r. ⌜ r ≡ cond (ltb 65536 at) 0 at ⌝ }
+{
+    if at <= MUCH {
+        return at;
+    }
+    print(out, at);
+    0
+}
+
+// Moves what has not ended to the front of the buffer. More than a line can have is cut: it stays longer than any line that is read.
+pub fn keep(text: &mut [u8], from: usize, end: usize) -> usize
+    requires { ⌜ (from ≤ end) × (end ≤ length (now text)) ⌝ }
+    ensures { λ r. ⌜ r ≡ min (end - from) 200001 ⌝ }
+    ensures { λ r. ⌜ now (text .exit) ≡ patch (now (text .entry)) 0 (part (now (text .entry)) from r) ⌝ }
+{
+    if LONG < end - from {
+        pieces::move_left(text, from, 0, LONG);
+        return LONG;
+    }
+    let n = end - from;
+    pieces::move_left(text, from, 0, n);
+    n
+}
