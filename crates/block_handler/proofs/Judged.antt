@@ -1,7 +1,7 @@
 -- The verdict by its cases, and what a place tells. Assumes nothing.
 use Prim.Native.Nat.{ℕ, _+_, _*_, _≤_, _<_}
-use mathlib.Core.Path.{_≡_, refl, sym}
-use mathlib.Core.Bool.{Bool, true, false, cond, not}
+use mathlib.Core.Path.{_≡_, refl, sym, ap, _∙_}
+use mathlib.Core.Bool.{Bool, true, false, cond, not, _&&_}
 use mathlib.Core.List.{List}
 use native.Mathlib.Omega.{arith}
 use lib.ListN.{length}
@@ -14,8 +14,12 @@ use Rattle.block_state.proofs.Fits.{assembled-most}
 use Rattle.block_table.specs.declared.Table.{Table}
 use Rattle.keys.specs.Keys.{keyOk}
 use Rattle.entries.specs.Entries.{entryOk}
-use Rattle.block_table.specs.Table.{tableOk, distinct, sweep}
+use Rattle.block_table.specs.Table.{tableOk, distinct, sweep, at}
 use Rattle.places.specs.Places.{place, opened}
+use Rattle.places.specs.declared.Sight.{Sight}
+use Rattle.places.specs.Sight.{placeIn, indexOf, sightAt, Sees}
+use Rattle.places.proofs.Places.{place-most}
+use Rattle.block_table.proofs.Row.{length-sweep}
 use Rattle.keys.specs.Lists.{all}
 use Rattle.entries.specs.Quick.{sized, unexpired}
 use Rattle.block_table.proofs.Turns.{sweep-kept}
@@ -24,7 +28,7 @@ use Rattle.places.proofs.Put.{opened-fits}
 use Rattle.block_handler.specs.declared.Verdict.{Verdict}
 use Rattle.block_handler.specs.declared.Verdict.the-variants.{Refused, Place}
 use Rattle.block_handler.specs.Call.{configOk, memoriesOk}
-use Rattle.block_handler.specs.Verdict.{messageOk, limitsOk, verdictOf}
+use Rattle.block_handler.specs.Verdict.{messageOk, limitsOk, verdictOf, HasPlace}
 
 -- what the limits of a configuration tell
 pub record ConfigFits (c : Config) : Type 0 where
@@ -41,32 +45,11 @@ config-fits c h =
       response = leb-true (c .response) 65536 (search ands);
     }
 
-pub no-place : (n i : ℕ) → Refused n ≡ Place i → ⊥
-no-place n i e = let no : _≡_ {A = ℕ} 0 1 = cc in omega arith
-
 each-within : (c : Config) (t : Table) → tableOk c t ≡ true → all (entryOk c (t .clock)) (t .entries) ≡ true
 unfolding tableOk
 each-within c t h = and-left (all (entryOk c (t .clock)) (t .entries)) (distinct (t .entries)) h
 
-pub key-short : (k : List ℕ) → keyOk k ≡ true → length k ≤ 64
-unfolding keyOk
-key-short k h = leb-true (length k) 64 (search ands)
-
--- 17 tells that the table is off its limits, since a place is 16 at most
-module _ (b : Bool) (p r : ℕ) (e : r ≡ cond b p 17) where
-  pub table-off : p ≤ 16 → r ≡ 17 → b ≡ false
-  table-off most h = go b e
-    where
-      go : (z : Bool) → r ≡ cond z p 17 → z ≡ false
-      go true f = absurd (omega arith)
-      go false f = refl
-
-  pub table-on : (r ≡ 17 → ⊥) → (b ≡ true) × (r ≡ p)
-  table-on n = go b e
-    where
-      go : (z : Bool) → r ≡ cond z p 17 → (z ≡ true) × (r ≡ p)
-      go true f = (refl, f)
-      go false f = absurd (n f)
+-- ---- the verdict
 
 module _ (c : Config) (t : Table) (u v time : ℕ) (key : List ℕ) (bare payload head : ℕ) where
   abbrev verdict : Verdict
@@ -75,43 +58,63 @@ module _ (c : Config) (t : Table) (u v time : ℕ) (key : List ℕ) (bare payloa
   abbrev there : ℕ
   there = place key (sweep (c .lifetime) time (t .entries))
 
+  abbrev within : Bool
+  within = keyOk key && tableOk c t
+
+  limits-are : limitsOk c t u v key bare payload head ≡ (configOk c && memoriesOk c u v && messageOk bare payload head && within)
+  unfolding limitsOk
+  limits-are = swap (configOk c && memoriesOk c u v) (keyOk key) (messageOk bare payload head) (tableOk c t)
+    where
+      swap : (x k m z : Bool) → (x && k && m && z) ≡ (x && m && (k && z))
+      swap true true m z = refl
+      swap true false true z = refl
+      swap true false false z = refl
+      swap false k m z = refl
+
   pub off-config : configOk c ≡ false → verdict ≡ Refused 1
-  unfolding verdictOf limitsOk
-  off-config a = rw a
+  unfolding verdictOf
+  off-config a = rw (limits-are, a)
 
   module _ (a : configOk c ≡ true) where
     pub off-memories : memoriesOk c u v ≡ false → verdict ≡ Refused 1
-    unfolding verdictOf limitsOk
-    off-memories b = rw (a, b)
+    unfolding verdictOf
+    off-memories b = rw (limits-are, a, b)
 
     module _ (b : memoriesOk c u v ≡ true) where
-      pub off-key : keyOk key ≡ false → verdict ≡ Refused 1
-      unfolding verdictOf limitsOk
-      off-key d = rw (a, b, d)
+      pub off-message : messageOk bare payload head ≡ false → verdict ≡ Refused 1
+      unfolding verdictOf
+      off-message e = rw (limits-are, a, b, e)
 
-      module _ (d : keyOk key ≡ true) where
-        pub off-message : messageOk bare payload head ≡ false → verdict ≡ Refused 1
-        unfolding verdictOf limitsOk
-        off-message e = rw (a, b, d, e)
+      -- by the place that is seen: 17 tells that the key or the table is off its limits, since any other is 16 at most
+      module _ (e : messageOk bare payload head ≡ true) (sixteen : length (t .entries) ≡ 16) (p : ℕ) (is : p ≡ placeIn c time key t) where
+        most : there ≤ 16
+        most = place-most key (sweep (c .lifetime) time (t .entries)) (length-sweep (c .lifetime) time (t .entries) ∙ sixteen)
 
-        module _ (e : messageOk bare payload head ≡ true) where
-          pub off-table : tableOk c t ≡ false → verdict ≡ Refused 1
-          unfolding verdictOf limitsOk
-          off-table f = rw (a, b, d, e, f)
+        pub off-table : p ≡ 17 → verdict ≡ Refused 1
+        unfolding verdictOf placeIn
+        off-table h = by-cases within (λ f. absurd (let no : p ≡ there = is ∙ rw f in omega (arith, most))) (λ f. rw (limits-are, a, b, e, f))
 
-          module _ (f : tableOk c t ≡ true) where
-            pub too-early : time < t .clock → verdict ≡ Refused 2
-            unfolding verdictOf limitsOk
-            too-early g = rw (a, b, d, e, f, lt-ltb time (t .clock) g)
+        module _ (on : p ≡ 17 → ⊥) where
+          f : within ≡ true
+          unfolding placeIn
+          f = by-cases within (λ y. y) (λ n. absurd (on (is ∙ rw n)))
 
-            module _ (g : t .clock ≤ time) where
-              pub full : 16 ≤ there → verdict ≡ Refused 3
-              unfolding verdictOf limitsOk
-              full h = rw (a, b, d, e, f, le-ltb time (t .clock) g, le-leb 16 there h)
+          at-there : p ≡ there
+          unfolding placeIn
+          at-there = is ∙ rw f
 
-              pub placed : there < 16 → verdict ≡ Place there
-              unfolding verdictOf limitsOk
-              placed h = rw (a, b, d, e, f, le-ltb time (t .clock) g, lt-leb 16 there h)
+          pub too-early : time < t .clock → verdict ≡ Refused 2
+          unfolding verdictOf
+          too-early g = rw (limits-are, a, b, e, f, lt-ltb time (t .clock) g)
+
+          module _ (g : t .clock ≤ time) where
+            pub full : 16 ≤ p → verdict ≡ Refused 3
+            unfolding verdictOf
+            full h = rw (limits-are, a, b, e, f, le-ltb time (t .clock) g, le-leb 16 there (omega (arith, at-there)))
+
+            pub placed : p < 16 → verdict ≡ Place p
+            unfolding verdictOf
+            placed h = rw (limits-are, a, b, e, f, le-ltb time (t .clock) g, lt-leb 16 there (omega (arith, at-there))) (ap Place (sym at-there))
 
   -- a place tells that the limits are met, that the clock goes on, and where the key stands
   pub record Placed (i : ℕ) : Type 0 where
@@ -150,10 +153,10 @@ pub record AtPlace (c : Config) (t : Table) (u v time : ℕ) (key : List ℕ) (h
   pub up : i * c .upload + c .upload ≤ u
   pub down : i * c .response + c .response ≤ v
   pub small : u + v ≤ 2097152
-  -- what is assembled lies in its piece
   -- the row is as a sweep would leave it, or has to be swept
   pub kept : (freed : Bool) → all sized (t .entries) ≡ true → freed ≡ not (all (unexpired (c .lifetime) time) (t .entries))
       → cond freed (sweep (c .lifetime) time (t .entries)) (t .entries) ≡ sweep (c .lifetime) time (t .entries)
+  -- what is assembled lies in its piece
   pub holds : length (t .entries) ≡ 16 → opened key (sweep (c .lifetime) time (t .entries)) .state .assembled .len ≤ c .upload
 
 pub at-place : (c : Config) (t : Table) (u v time : ℕ) (key : List ℕ) (bare payload head i : ℕ) → verdictOf c t u v time key bare payload head ≡ Place i
@@ -176,3 +179,34 @@ at-place c t u v time key bare payload head i h =
       kept = λ freed. sweep-kept c (t .clock) (c .lifetime) time (t .entries) freed (each-within c t (search ands));
       holds = λ sixteen. assembled-most c _ (opened-fits c t time (table-fits c t (search ands)) sixteen (p .clock) key (search ands) (rw (← (p .is)) (p .below)) .state .assembled);
     }
+
+-- ---- what is seen of the table at a place
+
+module _ (c : Config) (s : Sight) (u v time : ℕ) (key : List ℕ) (bare payload head i : ℕ) (t : Table) (h : HasPlace c s u v time key bare payload head i t) where
+  abbrev told : Placed c t u v time key bare payload head i
+  told = place-tells c t u v time key bare payload head i (h .1)
+
+  seen-place : placeIn c time key t ≡ i
+  unfolding placeIn limitsOk
+  seen-place =
+      let l = told .limits in
+      let k : keyOk key ≡ true = search ands in
+      let f : tableOk c t ≡ true = search ands in
+      rw (k, f) (sym (told .is))
+
+  pub seen-entry : s .entry ≡ at (t .entries) i
+  unfolding sightAt
+  seen-entry = ap (λ (z : Sight). z .entry) (h .0 .0) ∙ ap (λ (p : ℕ). at (t .entries) (indexOf p)) seen-place ∙ rw (lt-ltb i 16 (told .below))
+
+  pub seen-freed : s .freed ≡ not (all (unexpired (c .lifetime) time) (t .entries))
+  unfolding sightAt
+  seen-freed = ap (λ (z : Sight). z .freed) (h .0 .0)
+
+module _ (c : Config) (time : ℕ) (key : List ℕ) (t : Table) (s : Sight) (h : Sees c time key t s) where
+  pub seen-clock : s .clock ≡ t .clock
+  unfolding sightAt
+  seen-clock = ap (λ (z : Sight). z .clock) (h .0)
+
+  pub seen-at : s .place ≡ placeIn c time key t
+  unfolding sightAt
+  seen-at = ap (λ (z : Sight). z .place) (h .0)

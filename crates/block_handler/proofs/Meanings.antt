@@ -6,6 +6,7 @@ use mathlib.Core.List.{List, [], _∷_, _++_}
 use native.Mathlib.Omega.{arith}
 use lib.ListN.{length, take, drop, set}
 use lib.Dec.{leb, ltb}
+use borrow.Author.Tests.{ltb-true}
 use Rattle.pieces.specs.Memory.{part, pieceOf, putPiece}
 use Rattle.pieces.proofs.Memory.{patch-lent, length-piece}
 use Rattle.block_state.specs.declared.Config.{Config}
@@ -23,6 +24,8 @@ use Rattle.keys.specs.declared.Key.{Key}
 use Rattle.entries.specs.Entries.{inUse, swept}
 use Rattle.block_table.specs.Table.{sweep, at}
 use Rattle.places.specs.Places.{place, opened}
+use Rattle.places.specs.declared.Sight.{Sight}
+use Rattle.places.specs.Sight.{placeIn, indexOf, sightAt, Sees}
 use Rattle.block_table.proofs.Row.{at-sweep}
 use Rattle.block_handler.specs.declared.Verdict.{Verdict}
 use Rattle.block_handler.specs.declared.Verdict.the-variants as verdict
@@ -89,9 +92,20 @@ set-own [] i = refl
 set-own (x ∷ l) zero = refl
 set-own (x ∷ l) (suc i) = ap (λ (r : List Entry). x ∷ r) (set-own l i)
 
--- an entry that is put where it stands
-pub stays : (t : Table) (e : Entry) → e ≡ at (t .entries) 0 → _≡_ {A = Table} (record { clock = t .clock; entries = set (t .entries) 0 e }) t
-stays t e h = λ k. record { clock = t .clock; entries = (ap (set (t .entries) 0) h ∙ set-own (t .entries) 0) k }
+-- an entry that is put where it was seen
+pub stays : (c : Config) (time : ℕ) (key : List ℕ) (t : Table) (s : Sight) → Sees c time key t s
+    → _≡_ {A = Table} (record { clock = s .clock; entries = set (t .entries) (s .at) (s .entry) }) t
+unfolding sightAt
+stays c time key t s h =
+    (λ k. record { clock = h .0 k .clock; entries = set (t .entries) (h .0 k .at) (h .0 k .entry) })
+    ∙ (λ k. record { clock = t .clock; entries = set-own (t .entries) (indexOf (placeIn c time key t)) k })
+
+pub seen-below : (c : Config) (time : ℕ) (key : List ℕ) (t : Table) (s : Sight) → Sees c time key t s → s .at < 16
+unfolding sightAt
+seen-below c time key t s h = rw (ap (λ (z : Sight). z .at) (h .0)) (below (placeIn c time key t))
+  where
+    below : (p : ℕ) → indexOf p < 16
+    below p = by-cases (ltb p 16) (λ y. rw y (ltb-true p 16 y)) (λ n. rw n (omega arith))
 
 -- one entry put into the swept row, which may be the row itself
 pub after : (time : ℕ) (row l : List Entry) (i : ℕ) (e : Entry) (key : Key) (s : BlockState) → row ≡ l → e ≡ inUse key time s

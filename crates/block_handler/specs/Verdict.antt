@@ -2,12 +2,15 @@
 use Prim.Native.Nat.{ℕ}
 use mathlib.Core.Bool.{Bool, cond, not, _&&_}
 use mathlib.Core.List.{List}
+use mathlib.Core.Path.{_≡_}
 use lib.Dec.{leb, ltb}
 use Rattle.block_state.specs.declared.Config.{Config}
 use Rattle.block_table.specs.declared.Table.{Table}
 use Rattle.keys.specs.Keys.{keyOk}
 use Rattle.block_table.specs.Table.{tableOk, sweep}
 use Rattle.places.specs.Places.{place}
+use Rattle.places.specs.declared.Sight.{Sight}
+use Rattle.places.specs.Sight.{Sees}
 use Rattle.block_handler.specs.declared.Verdict.{Verdict}
 use Rattle.block_handler.specs.declared.Verdict.the-variants.{Refused, Place}
 use Rattle.block_handler.specs.Call.{configOk, memoriesOk}
@@ -26,3 +29,7 @@ verdictOf c t u v time key bare payload head =
     (cond (ltb time (t .clock)) (Refused 2)
     (cond (leb 16 (place key (sweep (c .lifetime) time (t .entries)))) (Refused 3)
     (Place (place key (sweep (c .lifetime) time (t .entries))))))
+
+-- The table that is seen so has a place i for the call.
+abbrev pub HasPlace : Config → Sight → ℕ → ℕ → ℕ → List ℕ → ℕ → ℕ → ℕ → ℕ → Table → Type 0
+HasPlace c sight u v time key bare payload head i t = Sees c time key t sight × (verdictOf c t u v time key bare payload head ≡ Place i)

@@ -9,33 +9,31 @@ use block_state::Config;
 use block_table::Table;
 use entries::Entry;
 use keys::Key;
+use places::Sight;
 ghost use mathlib.Core.Path.{_≡_};
-ghost use mathlib.Core.Bool.{true};
 ghost use mathlib.Core.List.{List};
 ghost use Prim.Native.Nat.{ℕ, _<_};
 ghost use lib.ListN.{length};
 ghost use Rattle.block_state.specs.Message.{request};
 ghost use Rattle.block_state.specs.Contract.{asking, replying};
-ghost use Rattle.keys.specs.Lists.{all};
 ghost use Rattle.entries.specs.Entries.{inUse};
 ghost use Rattle.block_table.specs.Table.{sweep};
 ghost use Rattle.places.specs.Places.{opened};
-ghost use Rattle.entries.specs.Quick.{sized};
+ghost use Rattle.places.specs.Sight.{Sees};
 ghost use Rattle.block_handler.specs.Call.{done, callAt};
-ghost use Rattle.block_handler.specs.Verdict.{verdictOf};
+ghost use Rattle.block_handler.specs.Verdict.{HasPlace};
 ghost use Rattle.block_handler.specs.Contract.{world, requestCall, responseCall, Meant, changed};
 
-// A refusal changes nothing: the first entry is put where it stands.
-fn refused(table: Table, n: u8) -> Change
-    ensures { λ r. ⌜ ((lifetime time : ℕ) → changed lifetime time table r ≡ table) × (r .answer ≡ Answer.Refused n) × (r .at < 16) ⌝ }
+// A refusal changes nothing: the entry that is seen is put where it stands.
+fn refused(sight: Sight, n: u8) -> Change
+    ensures { λ r. ⌜ ((c : Config) (lifetime time : ℕ) (key : List ℕ) (t : Table) → Sees c time key t sight → changed lifetime time t r ≡ t) × (r .answer ≡ Answer.Refused n) × (r .at ≡ sight .at) ⌝ }
 {
-    let entries = table.entries;
-    let entry = block_table::entry_at(entries, 0);
+    let entry = sight.entry;
     let answer = Answer::Refused(n);
     Change {
         freed: false,
-        clock: table.clock,
-        at: 0,
+        clock: sight.clock,
+        at: sight.at,
         entry,
         answer,
     }
@@ -56,7 +54,7 @@ fn touched(key: Key, time: u64, state: BlockState) -> Entry
 // A request at its place: the step on entry i and on its piece, put back.
 fn request_at<'a>(
     config: Config,
-    table: Table,
+    sight: Sight,
     upload: &mut [u8],
     v: usize,
     time: u64,
@@ -69,12 +67,10 @@ fn request_at<'a>(
     block2: &'a [u8],
     payload: &'a [u8],
 ) -> Change
-    requires { ⌜ (verdictOf config table (length (now upload)) v time (now key) bare (length (now payload)) 0 ≡ Verdict.Place i) × (all sized (table .entries) ≡ true) ⌝ }
-    ensures { λ r. ⌜ ((d : List ℕ) → done (world (changed (config .lifetime) time table r) (now (upload .exit)) d) (r .answer) ≡ callAt config (world table (now (upload .entry)) d) time (sweep (config .lifetime) time (table .entries)) i (opened (now (key .entry)) (sweep (config .lifetime) time (table .entries))) (request (asking bare given1 (now (block1 .entry)) given2 (now (block2 .entry)) (now (payload .entry))))) × (r .at ≡ i) ⌝ }
+    requires { ⌜ ((t : Table) × HasPlace config sight (length (now upload)) v time (now key) bare (length (now payload)) 0 i t) ⌝ }
+    ensures { λ r. ⌜ ((t : Table) → HasPlace config sight (length (now (upload .entry))) v time (now (key .entry)) bare (length (now (payload .entry))) 0 i t → (d : List ℕ) → done (world (changed (config .lifetime) time t r) (now (upload .exit)) d) (r .answer) ≡ callAt config (world t (now (upload .entry)) d) time (sweep (config .lifetime) time (t .entries)) i (opened (now (key .entry)) (sweep (config .lifetime) time (t .entries))) (request (asking bare given1 (now (block1 .entry)) given2 (now (block2 .entry)) (now (payload .entry))))) × (r .at ≡ i) ⌝ }
 {
-    let entries = table.entries;
-    let taken = block_table::taken(entries, i, config.lifetime, time);
-    let at = taken.entry;
+    let at = sight.entry;
     let e = entries::start_from(entries::swept_entry(at, config.lifetime, time), key);
     let state = e.state;
     let home = i * config.upload;
@@ -96,10 +92,9 @@ fn request_at<'a>(
     let stored = e.key;
     let left = step.state;
     let entry = touched(stored, time, left);
-    let freed = taken.freed;
     let answer = step.answer;
     Change {
-        freed,
+        freed: sight.freed,
         clock: time,
         at: i,
         entry,
@@ -110,7 +105,7 @@ fn request_at<'a>(
 // A response at its place.
 fn response_at<'a>(
     config: Config,
-    table: Table,
+    sight: Sight,
     response: &mut [u8],
     u: usize,
     time: u64,
@@ -121,12 +116,10 @@ fn response_at<'a>(
     head: &'a [u8],
     payload: &'a [u8],
 ) -> Change
-    requires { ⌜ (verdictOf config table u (length (now response)) time (now key) bare (length (now payload)) (length (now head)) ≡ Verdict.Place i) × (all sized (table .entries) ≡ true) ⌝ }
-    ensures { λ r. ⌜ ((m : List ℕ) → done (world (changed (config .lifetime) time table r) m (now (response .exit))) (r .answer) ≡ callAt config (world table m (now (response .entry))) time (sweep (config .lifetime) time (table .entries)) i (opened (now (key .entry)) (sweep (config .lifetime) time (table .entries))) (Rattle.block_state.specs.Message.response (replying bare own (now (head .entry)) (now (payload .entry))))) × (r .at ≡ i) ⌝ }
+    requires { ⌜ ((t : Table) × HasPlace config sight u (length (now response)) time (now key) bare (length (now payload)) (length (now head)) i t) ⌝ }
+    ensures { λ r. ⌜ ((t : Table) → HasPlace config sight u (length (now (response .entry))) time (now (key .entry)) bare (length (now (payload .entry))) (length (now (head .entry))) i t → (m : List ℕ) → done (world (changed (config .lifetime) time t r) m (now (response .exit))) (r .answer) ≡ callAt config (world t m (now (response .entry))) time (sweep (config .lifetime) time (t .entries)) i (opened (now (key .entry)) (sweep (config .lifetime) time (t .entries))) (Rattle.block_state.specs.Message.response (replying bare own (now (head .entry)) (now (payload .entry))))) × (r .at ≡ i) ⌝ }
 {
-    let entries = table.entries;
-    let taken = block_table::taken(entries, i, config.lifetime, time);
-    let at = taken.entry;
+    let at = sight.entry;
     let e = entries::start_from(entries::swept_entry(at, config.lifetime, time), key);
     let state = e.state;
     let from = i * config.response;
@@ -143,10 +136,9 @@ fn response_at<'a>(
     let stored = e.key;
     let left = step.state;
     let entry = touched(stored, time, left);
-    let freed = taken.freed;
     let answer = step.answer;
     Change {
-        freed,
+        freed: sight.freed,
         clock: time,
         at: i,
         entry,
@@ -186,11 +178,12 @@ pub fn request_change<'a>(
 {
     let u = upload.len();
     let v = response.len();
-    match judge::judge(config, table, u, v, time, key, bare, payload.len(), 0) {
-        Verdict::Refused(n) => refused(table, n),
+    let sight = places::look(config, table, time, key);
+    match judge::judge(config, sight, u, v, time, bare, payload.len(), 0) {
+        Verdict::Refused(n) => refused(sight, n),
         Verdict::Place(i) => request_at(
             config,
-            table,
+            sight,
             upload,
             v,
             time,
@@ -263,11 +256,12 @@ pub fn response_change<'a>(
     let u = upload.len();
     let v = response.len();
     let h = head.len();
-    match judge::judge(config, table, u, v, time, key, bare, payload.len(), h) {
-        Verdict::Refused(n) => refused(table, n),
+    let sight = places::look(config, table, time, key);
+    match judge::judge(config, sight, u, v, time, bare, payload.len(), h) {
+        Verdict::Refused(n) => refused(sight, n),
         Verdict::Place(i) => response_at(
             config,
-            table,
+            sight,
             response,
             u,
             time,

@@ -1,12 +1,12 @@
 // The checks 1, 2 and 3 before a step, and the key's place.
 use crate::Verdict;
 use block_state::Config;
-use block_table::Table;
+use places::Sight;
 ghost use mathlib.Core.Path.{_≡_};
-ghost use mathlib.Core.Bool.{true};
+ghost use mathlib.Core.List.{List};
 ghost use Prim.Native.Nat.{ℕ, _≤_};
-ghost use Rattle.keys.specs.Lists.{all};
-ghost use Rattle.entries.specs.Quick.{sized};
+ghost use Rattle.block_table.specs.declared.Table.{Table};
+ghost use Rattle.places.specs.Sight.{Sees};
 ghost use Rattle.block_handler.specs.Call.{between, configOk, memoriesOk};
 ghost use Rattle.block_handler.specs.Verdict.{messageOk, verdictOf};
 
@@ -44,19 +44,18 @@ fn message_ok(bare: usize, payload: usize, head: usize) -> bool
     (bare <= 65535) & (payload <= 65535) & (head <= 128)
 }
 
-// Judges a call by numbers: the lengths of the memories, and those of the message (a request has a head of 0).
+// Judges a call by what is seen of the table, and by numbers: the lengths of the memories, and those of the message (a request has a head of 0).
 pub fn judge(
     config: Config,
-    table: Table,
+    sight: Sight,
     u: usize,
     v: usize,
     time: u64,
-    key: &[u8],
     bare: usize,
     payload: usize,
     head: usize,
 ) -> Verdict
-    ensures { λ r. ⌜ (r ≡ verdictOf config table u v time (now (key .entry)) bare payload head) × ((i : ℕ) → r ≡ Verdict.Place i → all sized (table .entries) ≡ true) ⌝ }
+    ensures { λ r. ⌜ ((key : List ℕ) (t : Table) → Sees config time key t sight → r ≡ verdictOf config t u v time key bare payload head) ⌝ }
 {
     if !config_ok(config) {
         return Verdict::Refused(1);
@@ -64,17 +63,14 @@ pub fn judge(
     if !memories_ok(config, u, v) {
         return Verdict::Refused(1);
     }
-    if !keys::key_ok(key) {
-        return Verdict::Refused(1);
-    }
     if !message_ok(bare, payload, head) {
         return Verdict::Refused(1);
     }
-    let i = places::place_in(config, table, time, key);
+    let i = sight.place;
     if i == 17 {
         return Verdict::Refused(1);
     }
-    if time < table.clock {
+    if time < sight.clock {
         return Verdict::Refused(2);
     }
     if 16 <= i {

@@ -1,12 +1,12 @@
 -- Laws of keys: `same` tells equal from unequal, a stored key reads back as itself and within the limits, and no key is zeros. Assumes nothing.
-use Prim.Native.Nat.{ℕ, _-_}
+use Prim.Native.Nat.{ℕ, _-_, _≤_}
 use mathlib.Core.Bool.{true, false≢true}
 use mathlib.Core.Path.{_≡_, refl, ap₂}
 use mathlib.Core.List.{List, [], _∷_}
 use lib.ListN.{length, replicate}
 use lib.Seq.{take-append-seam}
-use lib.Dec.{eqb}
-use borrow.Author.Tests.{eqb-true, eq-eqb}
+use lib.Dec.{leb, eqb}
+use borrow.Author.Tests.{leb-true, eqb-true, eq-eqb}
 use Rattle.block_state.proofs.Tests.{and-left, and-right, and-both}
 use Rattle.keys.specs.Keys.{same, keyOk, keyOf, storedOk, stored, noKey, isNoKey}
 
@@ -27,6 +27,10 @@ same-eq (a ∷ s) (b ∷ t) e =
 pub key-stored : (k : List ℕ) → keyOf (stored k) ≡ k
 unfolding keyOf stored
 key-stored k = take-append-seam k (replicate (64 - length k) 0)
+
+pub key-short : (k : List ℕ) → keyOk k ≡ true → length k ≤ 64
+unfolding keyOk
+key-short k h = leb-true (length k) 64 (and-right (leb 1 (length k)) (leb (length k) 64) h)
 
 pub stored-ok : (k : List ℕ) → keyOk k ≡ true → storedOk (stored k) ≡ true
 unfolding keyOk storedOk stored

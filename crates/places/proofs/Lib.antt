@@ -2,4 +2,5 @@ pub mod Places
 pub mod Unswept
 pub mod Tagged
 pub mod Cases
+pub mod Looks
 pub mod Put

@@ -1,16 +1,45 @@
-// The place of a key in the table: the entry in use for it, else the lowest free one.
+// What a call sees of the table, with the place of its key: the entry in use for it, else the lowest free one.
 use block_state::Config;
 use block_table::Table;
 use entries::Entry;
 ghost use mathlib.Core.Path.{_≡_};
 ghost use mathlib.Core.Bool.{true, cond};
-ghost use Prim.Native.Nat.{_≤_};
+ghost use Prim.Native.Nat.{_<_};
 ghost use lib.ListN.{length};
 ghost use lib.Dec.{eqb};
-ghost use Rattle.keys.specs.Lists.{find, all};
-ghost use Rattle.block_table.specs.Table.{tableOk, sweep};
+ghost use Rattle.digest.specs.Digest.{digestOf, folded};
+ghost use Rattle.keys.specs.Lists.{find};
+ghost use Rattle.keys.specs.Keys.{keyOk};
+ghost use Rattle.block_table.specs.Table.{distinct, sweep};
 ghost use Rattle.places.specs.Places.{place};
+ghost use Rattle.places.specs.Sight.{indexOf, Sees, seenNext, quickPlace};
 ghost use Rattle.entries.specs.Quick.{holdsLive, notLive, sized};
+
+// What a call needs of the table: its clock, the place of the key in the row that a sweep would leave (16 if there is none, 17 where the key or the table
+// is off its limits), the entry at that place with its index (the first entry where there is none), and whether a sweep would free an entry in use.
+pub struct Sight {
+    pub clock: u64,
+    pub place: usize,
+    pub at: usize,
+    pub entry: Entry,
+    pub freed: bool,
+}
+
+// What a walk has seen so far: whether all is within the limits, whether an entry is expired, and the first entry that is not live, or 16.
+pub struct Seen {
+    pub ok: bool,
+    pub freed: bool,
+    pub free: usize,
+}
+
+fn narrow(x: usize) -> u32
+    requires { ⌜ x < 16 ⌝ }
+    ensures { λ r. ⌜ r ≡ x ⌝ }
+{
+    x as u32
+}
+
+// ---- Byte by byte, which is slow: only where two digests are equal
 
 // The entry is live and holds the key.
 fn holds_live(e: Entry, lifetime: u64, time: u64, key: &[u8]) -> bool
@@ -62,6 +91,18 @@ fn place_of(entries: [Entry; 16], lifetime: u64, time: u64, key: &[u8]) -> usize
     find_free(entries, lifetime, time)
 }
 
+// The same, of a row whose entries are each within the limits; 17 if two have one key.
+fn close_place(entries: [Entry; 16], lifetime: u64, time: u64, key: &[u8]) -> usize
+    ensures { λ r. ⌜ r ≡ cond (distinct entries) (place (now (key .entry)) (sweep lifetime time entries)) 17 ⌝ }
+{
+    if block_table::all_distinct(entries) {
+        return place_of(entries, lifetime, time, key);
+    }
+    17
+}
+
+// ---- By digests
+
 // Where the tag stands in the row; 16 if nowhere.
 fn find_tag(row: [u32; 16], own: u32) -> usize
     ensures { λ r. ⌜ r ≡ find (λ x. eqb x own) row ⌝ }
@@ -76,29 +117,100 @@ fn find_tag(row: [u32; 16], own: u32) -> usize
     16
 }
 
-// The place of the key in the row that a sweep would leave, where the table is within its limits; else 17.
-pub fn place_in(config: Config, table: Table, time: u64, key: &[u8]) -> usize
-    requires { ⌜ length (now key) ≤ 64 ⌝ }
-    ensures { λ r. ⌜ (r ≡ cond (tableOk config table) (place (now (key .entry)) (sweep (config .lifetime) time (table .entries))) 17) × (length (table .entries) ≡ 16) × ((r ≡ 17 → ⊥) → all sized (table .entries) ≡ true) ⌝ }
+// The tag of an entry in use for the key.
+fn own_tag(key: &[u8]) -> u32
+    ensures { λ r. ⌜ r ≡ cond (keyOk (now (key .entry))) (folded (digestOf (now (key .entry)))) 0 ⌝ }
 {
-    let entries = table.entries;
-    let clock = table.clock;
-    if !block_table::each_ok(config, clock, entries) {
+    if keys::key_ok(key) {
+        return keys::key_tag(key);
+    }
+    0
+}
+
+// What is seen once entry i is looked at.
+fn see(seen: Seen, i: usize, e: Entry, config: Config, clock: u64, time: u64) -> Seen
+    ensures { λ r. ⌜ (r ≡ seenNext config clock time seen i e) × (sized e ≡ true) ⌝ }
+{
+    let ok = seen.ok & entries::entry_ok(config, clock, e);
+    let freed = seen.freed | entries::is_expired(e.used, e.touched, config.lifetime, time);
+    let live = entries::is_live(e.used, e.touched, config.lifetime, time);
+    if (16 <= seen.free) & !live {
+        return Seen { ok, freed, free: i };
+    }
+    Seen {
+        ok,
+        freed,
+        free: seen.free,
+    }
+}
+
+fn index(place: usize) -> usize
+    ensures { λ r. ⌜ (r ≡ indexOf place) × (r < 16) ⌝ }
+{
+    if place < 16 { place } else { 0 }
+}
+
+// The key's place, by what is seen: `first` is where its tag stands, and `held` tells whether the entry there holds it. 18 where two tags are equal.
+fn quick_place(seen: Seen, apart: bool, first: usize, held: bool) -> usize
+    ensures { λ r. ⌜ r ≡ quickPlace seen apart first held ⌝ }
+{
+    if !seen.ok {
         return 17;
     }
-    let row = block_table::tags(entries);
-    if digest::apart(row) {
-        let i = find_tag(row, keys::key_tag(key));
-        if i < 16 {
-            let e = entries[i];
-            if holds_live(e, config.lifetime, time, key) {
-                return i;
-            }
-        }
-        return find_free(entries, config.lifetime, time);
+    if !apart {
+        return 18;
     }
-    if block_table::all_distinct(entries) {
-        return place_of(entries, config.lifetime, time, key);
+    if (first < 16) & held {
+        return first;
     }
-    17
+    seen.free
+}
+
+fn count(entries: [Entry; 16]) -> usize
+    ensures { λ r. ⌜ (r ≡ 16) × (length entries ≡ 16) ⌝ }
+{
+    16
+}
+
+// What a call needs of the table. Both walks stand here, since each function that takes the row copies it.
+pub fn look(config: Config, table: Table, time: u64, key: &[u8]) -> Sight
+    ensures { λ r. ⌜ Sees config time (now (key .entry)) table r ⌝ }
+{
+    let entries = table.entries;
+    let n = count(entries);
+    let clock = table.clock;
+    let mut seen = Seen {
+        ok: keys::key_ok(key),
+        freed: false,
+        free: 16,
+    };
+    let mut i = 0;
+    while i < n {
+        let e = entries[i];
+        seen = see(seen, i, e, config, clock, time);
+        i += 1;
+    }
+    let mut tags = [0u32; 16];
+    let mut j = 0;
+    while j < n {
+        let e = entries[j];
+        tags[j] = entries::tag(e, narrow(j));
+        j += 1;
+    }
+    let first = find_tag(tags, own_tag(key));
+    let own = entries[index(first)];
+    let held = holds_live(own, config.lifetime, time, key);
+    let mut place = quick_place(seen, digest::apart(tags), first, held);
+    if place == 18 {
+        place = close_place(entries, config.lifetime, time, key);
+    }
+    let at = index(place);
+    let entry = entries[at];
+    Sight {
+        clock,
+        place,
+        at,
+        entry,
+        freed: seen.freed,
+    }
 }

@@ -1,0 +1,48 @@
+-- What a call sees of the table, and how the code gets to see it. No contract of the handler's two calls, nor of an export, cites this.
+use Prim.Native.Nat.{ℕ}
+use mathlib.Core.Bool.{Bool, cond, not, _&&_, _||_}
+use mathlib.Core.Path.{_≡_}
+use mathlib.Core.List.{List}
+use mathlib.Core.Bool.{true}
+use lib.ListN.{length}
+use lib.Dec.{ltb, leb}
+use Rattle.block_state.specs.declared.Config.{Config}
+use Rattle.keys.specs.Lists.{all}
+use Rattle.keys.specs.Keys.{keyOk}
+use Rattle.entries.specs.declared.Entry.{Entry}
+use Rattle.entries.specs.Entries.{entryOk}
+use Rattle.entries.specs.Quick.{notLive, sized, unexpired}
+use Rattle.block_table.specs.declared.Table.{Table}
+use Rattle.block_table.specs.Table.{tableOk, sweep, at}
+use Rattle.places.specs.declared.Seen.{Seen}
+use Rattle.places.specs.declared.Sight.{Sight}
+use Rattle.places.specs.Places.{place}
+
+-- The key's place in the row that a sweep leaves; 17 where the key or the table is off its limits.
+unfoldable pub placeIn : Config → ℕ → List ℕ → Table → ℕ
+placeIn c time k t = cond (keyOk k && tableOk c t) (place k (sweep (c .lifetime) time (t .entries))) 17
+
+-- A place that is an entry's; else the first entry.
+abbrev pub indexOf : ℕ → ℕ
+indexOf p = cond (ltb p 16) p 0
+
+unfoldable pub sightAt : Config → ℕ → Table → ℕ → Sight
+sightAt c time t p =
+    record { clock = t .clock; place = p; at = indexOf p; entry = at (t .entries) (indexOf p); freed = not (all (unexpired (c .lifetime) time) (t .entries)) }
+
+-- The sight of the table for a call with this key; and what the types give of a row: sixteen entries, each with the bytes of a key.
+abbrev pub Sees : Config → ℕ → List ℕ → Table → Sight → Type 0
+Sees c time k t s = (s ≡ sightAt c time t (placeIn c time k t)) × (length (t .entries) ≡ 16) × (all sized (t .entries) ≡ true)
+
+-- What is seen once entry i is looked at.
+abbrev pub seenNext : Config → ℕ → ℕ → Seen → ℕ → Entry → Seen
+seenNext c clock time s i e =
+    record {
+      ok = s .ok && entryOk c clock e;
+      freed = s .freed || not (unexpired (c .lifetime) time e);
+      free = cond (leb 16 (s .free) && notLive (c .lifetime) time e) i (s .free);
+    }
+
+-- The key's place by the tags: `first` is the first entry with the key's own. 17 where something is off its limits, 18 where two tags are equal.
+abbrev pub quickPlace : Seen → Bool → ℕ → Bool → ℕ
+quickPlace s apart first held = cond (s .ok) (cond apart (cond (ltb first 16 && held) first (s .free)) 18) 17
