@@ -191,7 +191,7 @@ struct block_handler_block block_handler_read(const uint8_t *option, size_t opti
 struct block_handler_option block_handler_write(uint32_t num, bool more, uint8_t exponent);
 
 /* A request, before the application sees it, at this time in milliseconds, which never goes back, under this key (1 to 64 bytes): requests
- * that share a key share an upload and a cached response, so it has the sender, the method and the path. `bare` is the length of
+ * that share a key share an upload and a cached response, so put the sender, the method and the path in it. `bare` is the length of
  * the message encoded without its payload. given1 and given2 say whether it has a Block1 and a Block2 option; their bytes count
  * only then. Changes the table and the key's piece of the upload memory; reads nothing of the response memory but its length. */
 struct block_handler_reply block_handler_request(
@@ -202,8 +202,8 @@ struct block_handler_reply block_handler_request(
     bool given2, const uint8_t *block2, size_t block2_len,
     const uint8_t *payload, size_t payload_len);
 
-/* A response, before it is sent, under the key of its request; `bare` is the length of the response encoded without its payload. `own` says that it has a Block2 option of its own; `head` is its encoded header and options, at most
- * 128 bytes. Changes the table and the key's piece of the response memory; reads nothing of the upload memory but its length. */
+/* A response, before it is sent, under the key of its request; `bare` is the length of the response encoded without its payload. `own` says
+ * that it has a Block2 option of its own; `head` is its encoded header and options, at most 128 bytes. Changes the table and the key's piece of the response memory; reads nothing of the upload memory but its length. */
 struct block_handler_reply block_handler_response(
     struct block_handler_table *table, struct block_handler_config config,
     const uint8_t *upload, size_t upload_len, uint8_t *response, size_t response_len,

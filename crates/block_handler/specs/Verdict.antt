@@ -1,4 +1,4 @@
--- How the code judges a call before it takes its step: by numbers alone, the same for requests and responses. No public contract cites this.
+-- How the code judges a call before it takes its step: by what is seen of the table, and by numbers, the same for requests and responses. No public contract cites this.
 use Prim.Native.Nat.{ℕ}
 use mathlib.Core.Bool.{Bool, cond, not, _&&_}
 use mathlib.Core.List.{List}
@@ -30,6 +30,6 @@ verdictOf c t u v time key bare payload head =
     (cond (leb 16 (place key (sweep (c .lifetime) time (t .entries)))) (Refused 3)
     (Place (place key (sweep (c .lifetime) time (t .entries))))))
 
--- The table that is seen so has a place i for the call.
+-- The table seen as `sight` has place i for the call.
 abbrev pub HasPlace : Config → Sight → ℕ → ℕ → ℕ → List ℕ → ℕ → ℕ → ℕ → ℕ → Table → Type 0
 HasPlace c sight u v time key bare payload head i t = Sees c time key t sight × (verdictOf c t u v time key bare payload head ≡ Place i)

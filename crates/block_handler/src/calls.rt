@@ -24,7 +24,7 @@ ghost use Rattle.block_handler.specs.Call.{done, callAt};
 ghost use Rattle.block_handler.specs.Verdict.{HasPlace};
 ghost use Rattle.block_handler.specs.Contract.{world, requestCall, responseCall, Meant, changed};
 
-// A refusal changes nothing: the entry that is seen is put where it stands.
+// A refusal changes nothing: the entry that is seen is put back where it stood.
 fn refused(sight: Sight, n: u8) -> Change
     ensures { λ r. ⌜ ((c : Config) (lifetime time : ℕ) (key : List ℕ) (t : Table) → Sees c time key t sight → changed lifetime time t r ≡ t) × (r .answer ≡ Answer.Refused n) × (r .at ≡ sight .at) ⌝ }
 {
@@ -70,8 +70,8 @@ fn request_at<'a>(
     requires { ⌜ ((t : Table) × HasPlace config sight (length (now upload)) v time (now key) bare (length (now payload)) 0 i t) ⌝ }
     ensures { λ r. ⌜ ((t : Table) → HasPlace config sight (length (now (upload .entry))) v time (now (key .entry)) bare (length (now (payload .entry))) 0 i t → (d : List ℕ) → done (world (changed (config .lifetime) time t r) (now (upload .exit)) d) (r .answer) ≡ callAt config (world t (now (upload .entry)) d) time (sweep (config .lifetime) time (t .entries)) i (opened (now (key .entry)) (sweep (config .lifetime) time (t .entries))) (request (asking bare given1 (now (block1 .entry)) given2 (now (block2 .entry)) (now (payload .entry))))) × (r .at ≡ i) ⌝ }
 {
-    let at = sight.entry;
-    let e = entries::start_from(entries::swept_entry(at, config.lifetime, time), key);
+    let old = sight.entry;
+    let e = entries::start_from(entries::swept_entry(old, config.lifetime, time), key);
     let state = e.state;
     let home = i * config.upload;
     let away = i * config.response;
@@ -119,8 +119,8 @@ fn response_at<'a>(
     requires { ⌜ ((t : Table) × HasPlace config sight u (length (now response)) time (now key) bare (length (now payload)) (length (now head)) i t) ⌝ }
     ensures { λ r. ⌜ ((t : Table) → HasPlace config sight u (length (now (response .entry))) time (now (key .entry)) bare (length (now (payload .entry))) (length (now (head .entry))) i t → (m : List ℕ) → done (world (changed (config .lifetime) time t r) m (now (response .exit))) (r .answer) ≡ callAt config (world t m (now (response .entry))) time (sweep (config .lifetime) time (t .entries)) i (opened (now (key .entry)) (sweep (config .lifetime) time (t .entries))) (Rattle.block_state.specs.Message.response (replying bare own (now (head .entry)) (now (payload .entry))))) × (r .at ≡ i) ⌝ }
 {
-    let at = sight.entry;
-    let e = entries::start_from(entries::swept_entry(at, config.lifetime, time), key);
+    let old = sight.entry;
+    let e = entries::start_from(entries::swept_entry(old, config.lifetime, time), key);
     let state = e.state;
     let from = i * config.response;
     let end = from + config.response;

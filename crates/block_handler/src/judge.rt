@@ -67,6 +67,7 @@ pub fn judge(
         return Verdict::Refused(1);
     }
     let i = sight.place;
+    // The key or the table is off its limits.
     if i == 17 {
         return Verdict::Refused(1);
     }

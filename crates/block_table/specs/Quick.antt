@@ -1,4 +1,4 @@
--- How the code tells a row's keys apart quickly. No contract of the handler's two calls, nor of an export, cites this.
+-- How the code tells a row's keys apart: by tags, and one entry from the others. No contract of the handler's two calls, nor of an export, cites this.
 use Prim.Native.Nat.{ℕ, _+_}
 use mathlib.Core.Bool.{Bool, not}
 use mathlib.Core.List.{List, [], _∷_}

@@ -1,4 +1,4 @@
-// The table of sixteen entries and its clock: its limits and expiry, and an entry put in its place.
+// The table of sixteen entries and its clock: whether no two have one key, expiry, and an entry put in its place.
 use entries::Entry;
 ghost use mathlib.Core.Path.{_≡_};
 ghost use lib.ListN.{length, drop, set};
@@ -27,7 +27,7 @@ fn alone_from(e: Entry, entries: [Entry; 16], from: usize) -> bool
     true
 }
 
-// Byte by byte, which is slow: only where two digests are equal.
+// Byte by byte, which is slow: only where two tags are equal.
 pub fn all_distinct(entries: [Entry; 16]) -> bool
     ensures { λ r. ⌜ r ≡ distinct entries ⌝ }
 {

@@ -2,7 +2,6 @@
 use crate::Outcome;
 use block_state::Config;
 use block_table::Table;
-ghost use mathlib.Core.Path.{_≡_};
 ghost use Rattle.block_handler.specs.Contract.{world, requestCall, responseCall, changed};
 ghost use Rattle.handler_c.specs.Contract.{Replies};
 

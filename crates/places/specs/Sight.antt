@@ -1,9 +1,8 @@
 -- What a call sees of the table, and how the code gets to see it. No contract of the handler's two calls, nor of an export, cites this.
 use Prim.Native.Nat.{ℕ}
-use mathlib.Core.Bool.{Bool, cond, not, _&&_, _||_}
+use mathlib.Core.Bool.{Bool, true, cond, not, _&&_, _||_}
 use mathlib.Core.Path.{_≡_}
 use mathlib.Core.List.{List}
-use mathlib.Core.Bool.{true}
 use lib.ListN.{length}
 use lib.Dec.{ltb, leb}
 use Rattle.block_state.specs.declared.Config.{Config}
@@ -26,11 +25,12 @@ placeIn c time k t = cond (keyOk k && tableOk c t) (place k (sweep (c .lifetime)
 abbrev pub indexOf : ℕ → ℕ
 indexOf p = cond (ltb p 16) p 0
 
+-- What is seen of the table by a call whose key has this place.
 unfoldable pub sightAt : Config → ℕ → Table → ℕ → Sight
 sightAt c time t p =
     record { clock = t .clock; place = p; at = indexOf p; entry = at (t .entries) (indexOf p); freed = not (all (unexpired (c .lifetime) time) (t .entries)) }
 
--- The sight of the table for a call with this key; and what the types give of a row: sixteen entries, each with the bytes of a key.
+-- The sight of the table for a call with this key; and what the types give of a row: sixteen entries, and 64 key bytes in each free one.
 abbrev pub Sees : Config → ℕ → List ℕ → Table → Sight → Type 0
 Sees c time k t s = (s ≡ sightAt c time t (placeIn c time k t)) × (length (t .entries) ≡ 16) × (all sized (t .entries) ≡ true)
 

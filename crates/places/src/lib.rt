@@ -16,7 +16,8 @@ ghost use Rattle.places.specs.Sight.{indexOf, Sees, seenNext, quickPlace
 ghost use Rattle.entries.specs.Quick.{holdsLive, notLive, sized};
 
 // What a call needs of the table: its clock, the place of the key in the row that a sweep would leave (16 if there is none, 17 where the key or the table
-// is off its limits), the entry at that place with its index (the first entry where there is none), and whether a sweep would free an entry in use.
+// is off its limits), the entry that stands there now, before any sweep, with its index (the first entry where there is no place), and whether a sweep would
+// free an entry in use.
 pub struct Sight {
     pub clock: u64,
     pub place: usize,
@@ -39,8 +40,6 @@ fn narrow(x: usize) -> u32
     x as u32
 }
 
-// ---- Byte by byte, which is slow: only where two digests are equal
-
 // The entry is live and holds the key.
 fn holds_live(e: Entry, lifetime: u64, time: u64, key: &[u8]) -> bool
     ensures { λ r. ⌜ r ≡ holdsLive lifetime time (now (key .entry)) e ⌝ }
@@ -52,6 +51,8 @@ fn holds_live(e: Entry, lifetime: u64, time: u64, key: &[u8]) -> bool
     }
     false
 }
+
+// ---- Byte by byte, which is slow: only where two tags are equal
 
 fn find_key(entries: [Entry; 16], lifetime: u64, time: u64, key: &[u8]) -> usize
     ensures { λ r. ⌜ r ≡ find (holdsLive lifetime time (now (key .entry))) entries ⌝ }
@@ -91,7 +92,7 @@ fn place_of(entries: [Entry; 16], lifetime: u64, time: u64, key: &[u8]) -> usize
     find_free(entries, lifetime, time)
 }
 
-// The same, of a row whose entries are each within the limits; 17 if two have one key.
+// The same; 17 if two entries in use have one key.
 fn close_place(entries: [Entry; 16], lifetime: u64, time: u64, key: &[u8]) -> usize
     ensures { λ r. ⌜ r ≡ cond (distinct entries) (place (now (key .entry)) (sweep lifetime time entries)) 17 ⌝ }
 {
@@ -101,7 +102,7 @@ fn close_place(entries: [Entry; 16], lifetime: u64, time: u64, key: &[u8]) -> us
     17
 }
 
-// ---- By digests
+// ---- By tags
 
 // Where the tag stands in the row; 16 if nowhere.
 fn find_tag(row: [u32; 16], own: u32) -> usize
@@ -117,7 +118,7 @@ fn find_tag(row: [u32; 16], own: u32) -> usize
     16
 }
 
-// The tag of an entry in use for the key.
+// The tag of an entry in use for the key; 0 where the key is off its limits.
 fn own_tag(key: &[u8]) -> u32
     ensures { λ r. ⌜ r ≡ cond (keyOk (now (key .entry))) (folded (digestOf (now (key .entry)))) 0 ⌝ }
 {
@@ -150,7 +151,8 @@ fn index(place: usize) -> usize
     if place < 16 { place } else { 0 }
 }
 
-// The key's place, by what is seen: `first` is where its tag stands, and `held` tells whether the entry there holds it. 18 where two tags are equal.
+// The key's place, by what is seen: `first` is where its tag stands, and `held` tells whether the entry there holds it. 17 where something is off its
+// limits, 18 where two tags are equal.
 fn quick_place(seen: Seen, apart: bool, first: usize, held: bool) -> usize
     ensures { λ r. ⌜ r ≡ quickPlace seen apart first held ⌝ }
 {
@@ -166,13 +168,14 @@ fn quick_place(seen: Seen, apart: bool, first: usize, held: bool) -> usize
     seen.free
 }
 
+// Its contract gives the proof the row's length.
 fn count(entries: [Entry; 16]) -> usize
     ensures { λ r. ⌜ (r ≡ 16) × (length entries ≡ 16) ⌝ }
 {
     16
 }
 
-// What a call needs of the table. Both walks stand here, since each function that takes the row copies it.
+// What a call needs of the table. Both walks stand here, since a function that walks the row copies it first.
 pub fn look(config: Config, table: Table, time: u64, key: &[u8]) -> Sight
     ensures { λ r. ⌜ Sees config time (now (key .entry)) table r ⌝ }
 {

@@ -1,4 +1,3 @@
-use mathlib.Core.Path.{refl}
 use Rattle.block_handler.proofs.Meanings.{stays}
 use borrow.Author.Needs.{needs}
 use Rattle.block_handler.proofs.calls.refused.Statement.{statement}

@@ -1,8 +1,6 @@
-use mathlib.Core.Path.{_≡_, sym, ap, _∙_}
+use mathlib.Core.Path.{_≡_, sym, _∙_}
 use mathlib.Core.Bool.{true}
 use borrow.Author.Tests.{not-true, not-false}
-use Rattle.places.specs.declared.Sight.{Sight}
-use Rattle.places.specs.Sight.{sightAt}
 use Rattle.block_handler.specs.Call.{configOk, memoriesOk}
 use Rattle.block_handler.specs.Verdict.{messageOk}
 use Rattle.block_handler.proofs.Judged.{config-fits, off-config, off-memories, off-message, off-table, too-early, full, placed, seen-at, seen-clock}
