@@ -27,10 +27,10 @@ use Rattle.places.specs.Places.{place, opened}
 use Rattle.places.specs.declared.Sight.{Sight}
 use Rattle.places.specs.Sight.{placeIn, indexOf, sightAt, Sees}
 use Rattle.block_table.proofs.Row.{at-sweep}
-use Rattle.block_handler.specs.declared.Verdict.{Verdict}
-use Rattle.block_handler.specs.declared.Verdict.the-variants as verdict
+use Rattle.judge.specs.declared.Verdict.{Verdict}
+use Rattle.judge.specs.declared.Verdict.the-variants as verdict
 use Rattle.block_handler.specs.Call.{World, Call, Done, done, whatOk, withinLimits, tableAfter, requestLeft, responseLeft, callAt, rowOf, call}
-use Rattle.block_handler.specs.Verdict.{messageOk, limitsOk, verdictOf}
+use Rattle.judge.specs.Verdict.{messageOk, limitsOk, verdictOf}
 use Rattle.block_handler.specs.Contract.{world}
 
 -- ---- a call by its verdict

@@ -3,7 +3,7 @@ use Prim.Native.Nat.{ℕ, _*_}
 use mathlib.Core.Bool.{Bool, cond, not, _&&_}
 use mathlib.Core.List.{List}
 use lib.ListN.{length, set}
-use lib.Dec.{leb, ltb, eqb}
+use lib.Dec.{leb, ltb}
 use Rattle.pieces.specs.Memory.{pieceOf, putPiece}
 use Rattle.block_state.specs.declared.Config.{Config}
 use Rattle.block_state.specs.declared.BlockState.{BlockState}
@@ -18,6 +18,7 @@ use Rattle.keys.specs.Keys.{keyOk}
 use Rattle.entries.specs.Entries.{inUse}
 use Rattle.block_table.specs.Table.{tableOk, sweep}
 use Rattle.places.specs.Places.{place, opened}
+use Rattle.judge.specs.Limits.{configOk, memoriesOk}
 
 -- What every call gets "that the call before it left": the table and the two memories.
 pub record World : Type 0 where
@@ -38,18 +39,6 @@ abbrev pub done : World → Answer → Done
 done w a = record { world = w; answer = a }
 
 -- ---- The limits (refusal 1)
-
-abbrev pub between : ℕ → ℕ → ℕ → Bool
-between least n most = leb least n && leb n most
-
--- "Message limit T is 1 to 65,535. Lifetime is 1 to 4,294,967,295 ms. U and V are 16 to 65,536."
-unfoldable pub configOk : Config → Bool
-configOk c =
-    between 1 (c .limit) 65535 && between 1 (c .lifetime) 4294967295 && between 16 (c .upload) 65536 && between 16 (c .response) 65536
-
--- "The memories are exactly 16U and 16V long"; u and v are their lengths.
-unfoldable pub memoriesOk : Config → ℕ → ℕ → Bool
-memoriesOk c u v = eqb u (16 * c .upload) && eqb v (16 * c .response)
 
 -- "Payload at most 65,535. `bare` .. at most 65,535. The head of a response .. at most 128 bytes."
 unfoldable pub whatOk : What → Bool

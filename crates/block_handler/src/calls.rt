@@ -1,13 +1,12 @@
 // The two calls.
 use crate::Change;
 use crate::Outcome;
-use crate::Verdict;
-use crate::judge;
 use block_state::Answer;
 use block_state::BlockState;
 use block_state::Config;
 use block_table::Table;
 use entries::Entry;
+use judge::Verdict;
 use keys::Key;
 use places::Sight;
 ghost use mathlib.Core.Path.{_≡_};
@@ -21,7 +20,7 @@ ghost use Rattle.block_table.specs.Table.{sweep};
 ghost use Rattle.places.specs.Places.{opened};
 ghost use Rattle.places.specs.Sight.{Sees};
 ghost use Rattle.block_handler.specs.Call.{done, callAt};
-ghost use Rattle.block_handler.specs.Verdict.{HasPlace};
+ghost use Rattle.judge.specs.Verdict.{HasPlace};
 ghost use Rattle.block_handler.specs.Contract.{world, requestCall, responseCall, Meant, changed};
 
 // A refusal changes nothing: the entry that is seen is put back where it stood.

@@ -4,20 +4,12 @@ use block_table::Table;
 use entries::Entry;
 
 mod calls;
-mod judge;
 
 pub use calls::changed_table;
 pub use calls::intercept_request;
 pub use calls::intercept_response;
 pub use calls::request_change;
 pub use calls::response_change;
-
-// What the checks before a step come to.
-pub enum Verdict {
-    Refused(u8),
-    // The entry's index.
-    Place(usize),
-}
 
 // What a call changes of the table: the entries that are not live may have to be freed, the clock is set, and one entry is put in its place.
 pub struct Change {

@@ -32,7 +32,8 @@ use Rattle.entries.proofs.Entries.{holds-used, holds-new, used-live, swept-dead
 use Rattle.block_table.proofs.Row.{at-sweep}
 use Rattle.places.proofs.Places.{opened-own, opened-new, opened-key, place-holds, place-of}
 use Rattle.block_table.proofs.TableFits.{row, row-length, row-unique, row-live}
-use Rattle.block_handler.specs.Call.{World, Call, configOk, whatOk, call}
+use Rattle.judge.specs.Limits.{configOk}
+use Rattle.block_handler.specs.Call.{World, Call, whatOk, call}
 use Rattle.answers.specs.Parts.{partOf, bodyOf}
 use Rattle.answers.proofs.Parted.{part-there}
 use Rattle.block_handler.proofs.Frame.{WorldFits, world-fits, key-within, Took, request-took, call-fits, other-keeps, clock-most}

@@ -19,7 +19,8 @@ use Rattle.block_table.proofs.TableFits.{table-fits}
 use Rattle.places.specs.Places.{place, opened}
 use Rattle.places.proofs.Places.{opened-own, opened-new}
 use Rattle.places.proofs.Put.{opened-fits}
-use Rattle.block_handler.specs.Call.{World, Call, done, memoriesOk, withinLimits, rowOf, callAt, call}
+use Rattle.judge.specs.Limits.{memoriesOk}
+use Rattle.block_handler.specs.Call.{World, Call, done, withinLimits, rowOf, callAt, call}
 use Rattle.block_handler.proofs.Judged.{config-fits}
 use Rattle.lent.specs.Lent.{Lent, roomFor, requestLent}
 use Rattle.lent.proofs.Forms.{with-room}

@@ -5,8 +5,8 @@ use lib.ListN.{length}
 use Rattle.block_table.specs.declared.Table.{Table}
 use Rattle.block_table.specs.Table.{sweep}
 use Rattle.places.specs.Places.{opened}
-use Rattle.block_handler.specs.Verdict.{HasPlace}
-use Rattle.block_handler.proofs.Judged.{AtPlace, at-place, seen-entry, seen-freed}
+use Rattle.judge.specs.Verdict.{HasPlace}
+use Rattle.judge.proofs.Judged.{AtPlace, at-place, seen-entry, seen-freed}
 use Rattle.block_handler.proofs.Meanings.{opened-swept, after, lent-piece, lent-length, lent-back, request-left}
 use borrow.Author.Needs.{needs}
 use Rattle.block_handler.proofs.calls.request_at.Statement.{statement}

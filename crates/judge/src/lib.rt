@@ -1,14 +1,17 @@
 // The checks 1, 2 and 3 before a step, and the key's place.
-use crate::Verdict;
 use block_state::Config;
 use places::Sight;
 ghost use mathlib.Core.Path.{_≡_};
-ghost use mathlib.Core.List.{List};
-ghost use Prim.Native.Nat.{ℕ, _≤_};
-ghost use Rattle.block_table.specs.declared.Table.{Table};
-ghost use Rattle.places.specs.Sight.{Sees};
-ghost use Rattle.block_handler.specs.Call.{between, configOk, memoriesOk};
-ghost use Rattle.block_handler.specs.Verdict.{messageOk, verdictOf};
+ghost use Prim.Native.Nat.{_≤_};
+ghost use Rattle.judge.specs.Limits.{between, configOk, memoriesOk};
+ghost use Rattle.judge.specs.Verdict.{messageOk, verdictBy};
+
+// What the checks before a step come to.
+pub enum Verdict {
+    Refused(u8),
+    // The entry's index.
+    Place(usize),
+}
 
 fn within(least: u64, n: u64, most: u64) -> bool
     ensures { λ r. ⌜ r ≡ between least n most ⌝ }
@@ -55,7 +58,7 @@ pub fn judge(
     payload: usize,
     head: usize,
 ) -> Verdict
-    ensures { λ r. ⌜ ((key : List ℕ) (t : Table) → Sees config time key t sight → r ≡ verdictOf config t u v time key bare payload head) ⌝ }
+    ensures { λ r. ⌜ r ≡ verdictBy config sight u v time bare payload head ⌝ }
 {
     if !config_ok(config) {
         return Verdict::Refused(1);

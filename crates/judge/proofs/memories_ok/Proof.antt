@@ -1,8 +1,8 @@
-use Rattle.block_handler.specs.Call.{memoriesOk}
+use Rattle.judge.specs.Limits.{memoriesOk}
 use mathlib.Core.Path.{refl}
 use borrow.Author.Needs.{needs}
-use Rattle.block_handler.proofs.judge.memories_ok.Statement.{statement}
-use Rattle.block_handler.proofs.judge.memories_ok.Tie as tie
+use Rattle.judge.proofs.memories_ok.Statement.{statement}
+use Rattle.judge.proofs.memories_ok.Tie as tie
 
 mul-result : tie.Need-mul-result
 mul-result c = search needs

@@ -3,7 +3,7 @@ use Prim.Native.Nat.{ℕ}
 use mathlib.Core.Bool.{Bool, cond, not, _&&_}
 use mathlib.Core.List.{List}
 use mathlib.Core.Path.{_≡_}
-use lib.Dec.{leb, ltb}
+use lib.Dec.{leb, ltb, eqb}
 use Rattle.block_state.specs.declared.Config.{Config}
 use Rattle.block_table.specs.declared.Table.{Table}
 use Rattle.keys.specs.Keys.{keyOk}
@@ -11,9 +11,9 @@ use Rattle.block_table.specs.Table.{tableOk, sweep}
 use Rattle.places.specs.Places.{place}
 use Rattle.places.specs.declared.Sight.{Sight}
 use Rattle.places.specs.Sight.{Sees}
-use Rattle.block_handler.specs.declared.Verdict.{Verdict}
-use Rattle.block_handler.specs.declared.Verdict.the-variants.{Refused, Place}
-use Rattle.block_handler.specs.Call.{configOk, memoriesOk}
+use Rattle.judge.specs.declared.Verdict.{Verdict}
+use Rattle.judge.specs.declared.Verdict.the-variants.{Refused, Place}
+use Rattle.judge.specs.Limits.{configOk, memoriesOk}
 
 -- The limits of a message: its length without payload, and the lengths of its payload and of its head (0 for a request).
 unfoldable pub messageOk : ℕ → ℕ → ℕ → Bool
@@ -29,6 +29,14 @@ verdictOf c t u v time key bare payload head =
     (cond (ltb time (t .clock)) (Refused 2)
     (cond (leb 16 (place key (sweep (c .lifetime) time (t .entries)))) (Refused 3)
     (Place (place key (sweep (c .lifetime) time (t .entries))))))
+
+-- The same by what is seen of the table.
+unfoldable pub verdictBy : Config → Sight → ℕ → ℕ → ℕ → ℕ → ℕ → ℕ → Verdict
+verdictBy c s u v time bare payload head =
+    cond (not (configOk c && memoriesOk c u v && messageOk bare payload head && not (eqb (s .place) 17))) (Refused 1)
+    (cond (ltb time (s .clock)) (Refused 2)
+    (cond (leb 16 (s .place)) (Refused 3)
+    (Place (s .place))))
 
 -- The table seen as `sight` has place i for the call.
 abbrev pub HasPlace : Config → Sight → ℕ → ℕ → ℕ → List ℕ → ℕ → ℕ → ℕ → ℕ → Table → Type 0

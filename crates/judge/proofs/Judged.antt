@@ -1,12 +1,12 @@
 -- The verdict by its cases, and what a place tells. Assumes nothing.
 use Prim.Native.Nat.{ℕ, _+_, _*_, _≤_, _<_}
 use mathlib.Core.Path.{_≡_, refl, sym, ap, _∙_}
-use mathlib.Core.Bool.{Bool, true, false, cond, not, _&&_}
+use mathlib.Core.Bool.{Bool, true, false, cond, not, _&&_, and-false}
 use mathlib.Core.List.{List}
 use native.Mathlib.Omega.{arith}
 use lib.ListN.{length}
 use lib.Dec.{leb, ltb}
-use borrow.Author.Tests.{ltb-false, leb-true, leb-false, eqb-true, lt-ltb, le-ltb, le-leb, lt-leb}
+use borrow.Author.Tests.{ltb-false, leb-true, leb-false, eqb-true, eq-eqb, ne-eqb, lt-ltb, le-ltb, le-leb, lt-leb}
 use Rattle.pieces.proofs.Memory.{piece-order}
 use Rattle.block_state.specs.declared.Config.{Config}
 use Rattle.block_state.proofs.Tests.{ands, and-left, by-cases}
@@ -25,10 +25,10 @@ use Rattle.entries.specs.Quick.{sized, unexpired}
 use Rattle.block_table.proofs.Turns.{sweep-kept}
 use Rattle.block_table.proofs.TableFits.{table-fits}
 use Rattle.places.proofs.Put.{opened-fits}
-use Rattle.block_handler.specs.declared.Verdict.{Verdict}
-use Rattle.block_handler.specs.declared.Verdict.the-variants.{Refused, Place}
-use Rattle.block_handler.specs.Call.{configOk, memoriesOk}
-use Rattle.block_handler.specs.Verdict.{messageOk, limitsOk, verdictOf, HasPlace}
+use Rattle.judge.specs.declared.Verdict.{Verdict}
+use Rattle.judge.specs.declared.Verdict.the-variants.{Refused, Place}
+use Rattle.judge.specs.Limits.{configOk, memoriesOk}
+use Rattle.judge.specs.Verdict.{messageOk, limitsOk, verdictOf, verdictBy, HasPlace}
 
 -- what the limits of a configuration tell
 pub record ConfigFits (c : Config) : Type 0 where
@@ -49,7 +49,46 @@ each-within : (c : Config) (t : Table) → tableOk c t ≡ true → all (entryOk
 unfolding tableOk
 each-within c t h = and-left (all (entryOk c (t .clock)) (t .entries)) (distinct (t .entries)) h
 
--- ---- the verdict
+-- ---- the verdict by its cases
+
+module _ (c : Config) (s : Sight) (u v time bare payload head : ℕ) where
+  abbrev by-sight : Verdict
+  by-sight = verdictBy c s u v time bare payload head
+
+  pub off-config : configOk c ≡ false → Refused 1 ≡ by-sight
+  unfolding verdictBy
+  off-config a = rw a
+
+  module _ (a : configOk c ≡ true) where
+    pub off-memories : memoriesOk c u v ≡ false → Refused 1 ≡ by-sight
+    unfolding verdictBy
+    off-memories b = rw (a, b)
+
+    module _ (b : memoriesOk c u v ≡ true) where
+      pub off-message : messageOk bare payload head ≡ false → Refused 1 ≡ by-sight
+      unfolding verdictBy
+      off-message m = rw (a, b, m)
+
+      module _ (m : messageOk bare payload head ≡ true) where
+        pub off-table : s .place ≡ 17 → Refused 1 ≡ by-sight
+        unfolding verdictBy
+        off-table p = rw (a, b, m, eq-eqb (s .place) 17 p)
+
+        module _ (p : s .place ≡ 17 → ⊥) where
+          pub too-early : time < s .clock → Refused 2 ≡ by-sight
+          unfolding verdictBy
+          too-early g = rw (a, b, m, ne-eqb (s .place) 17 p, lt-ltb time (s .clock) g)
+
+          module _ (g : s .clock ≤ time) where
+            pub full : 16 ≤ s .place → Refused 3 ≡ by-sight
+            unfolding verdictBy
+            full h = rw (a, b, m, ne-eqb (s .place) 17 p, le-ltb time (s .clock) g, le-leb 16 (s .place) h)
+
+            pub placed : s .place < 16 → Place (s .place) ≡ by-sight
+            unfolding verdictBy
+            placed h = rw (a, b, m, ne-eqb (s .place) 17 p, le-ltb time (s .clock) g, lt-leb 16 (s .place) h)
+
+-- ---- the verdict on a table
 
 module _ (c : Config) (t : Table) (u v time : ℕ) (key : List ℕ) (bare payload head : ℕ) where
   abbrev verdict : Verdict
@@ -71,50 +110,15 @@ module _ (c : Config) (t : Table) (u v time : ℕ) (key : List ℕ) (bare payloa
       swap true false false z = refl
       swap false k m z = refl
 
-  pub off-config : configOk c ≡ false → verdict ≡ Refused 1
-  unfolding verdictOf
-  off-config a = rw (limits-are, a)
-
-  module _ (a : configOk c ≡ true) where
-    pub off-memories : memoriesOk c u v ≡ false → verdict ≡ Refused 1
-    unfolding verdictOf
-    off-memories b = rw (limits-are, a, b)
-
-    module _ (b : memoriesOk c u v ≡ true) where
-      pub off-message : messageOk bare payload head ≡ false → verdict ≡ Refused 1
-      unfolding verdictOf
-      off-message e = rw (limits-are, a, b, e)
-
-      -- by the place that is seen: 17 tells that the key or the table is off its limits, since any other is 16 at most
-      module _ (e : messageOk bare payload head ≡ true) (sixteen : length (t .entries) ≡ 16) (p : ℕ) (is : p ≡ placeIn c time key t) where
-        most : there ≤ 16
-        most = place-most key (sweep (c .lifetime) time (t .entries)) (length-sweep (c .lifetime) time (t .entries) ∙ sixteen)
-
-        pub off-table : p ≡ 17 → verdict ≡ Refused 1
-        unfolding verdictOf placeIn
-        off-table h = by-cases within (λ f. absurd (let no : p ≡ there = is ∙ rw f in omega (arith, most))) (λ f. rw (limits-are, a, b, e, f))
-
-        module _ (on : p ≡ 17 → ⊥) where
-          f : within ≡ true
-          unfolding placeIn
-          f = by-cases within (λ y. y) (λ n. absurd (on (is ∙ rw n)))
-
-          at-there : p ≡ there
-          unfolding placeIn
-          at-there = is ∙ rw f
-
-          pub too-early : time < t .clock → verdict ≡ Refused 2
-          unfolding verdictOf
-          too-early g = rw (limits-are, a, b, e, f, lt-ltb time (t .clock) g)
-
-          module _ (g : t .clock ≤ time) where
-            pub full : 16 ≤ p → verdict ≡ Refused 3
-            unfolding verdictOf
-            full h = rw (limits-are, a, b, e, f, le-ltb time (t .clock) g, le-leb 16 there (omega (arith, at-there)))
-
-            pub placed : p < 16 → verdict ≡ Place p
-            unfolding verdictOf
-            placed h = rw (limits-are, a, b, e, f, le-ltb time (t .clock) g, lt-leb 16 there (omega (arith, at-there))) (ap Place (sym at-there))
+  -- what is judged by the sight of a table is judged of the table
+  pub verdict-seen : (s : Sight) → Sees c time key t s → verdictBy c s u v time bare payload head ≡ verdict
+  unfolding verdictBy verdictOf placeIn sightAt
+  verdict-seen s h =
+      ap (λ (z : Sight). verdictBy c z u v time bare payload head) (h .0)
+      ∙ by-cases within (λ f. rw (limits-are, f, ne-eqb there 17 (λ e. omega (arith, most)))) (λ f. rw (limits-are, f, and-false))
+    where
+      most : there ≤ 16
+      most = place-most key (sweep (c .lifetime) time (t .entries)) (length-sweep (c .lifetime) time (t .entries) ∙ h .1)
 
   -- a place tells that the limits are met, that the clock goes on, and where the key stands
   pub record Placed (i : ℕ) : Type 0 where
@@ -201,12 +205,3 @@ module _ (c : Config) (s : Sight) (u v time : ℕ) (key : List ℕ) (bare payloa
   pub seen-freed : s .freed ≡ not (all (unexpired (c .lifetime) time) (t .entries))
   unfolding sightAt
   seen-freed = ap (λ (z : Sight). z .freed) (h .0 .0)
-
-module _ (c : Config) (time : ℕ) (key : List ℕ) (t : Table) (s : Sight) (h : Sees c time key t s) where
-  pub seen-clock : s .clock ≡ t .clock
-  unfolding sightAt
-  seen-clock = ap (λ (z : Sight). z .clock) (h .0)
-
-  pub seen-at : s .place ≡ placeIn c time key t
-  unfolding sightAt
-  seen-at = ap (λ (z : Sight). z .place) (h .0)

@@ -1,7 +1,7 @@
-use Rattle.block_handler.specs.Call.{configOk}
+use Rattle.judge.specs.Limits.{configOk}
 use borrow.Author.Needs.{needs}
-use Rattle.block_handler.proofs.judge.config_ok.Statement.{statement}
-use Rattle.block_handler.proofs.judge.config_ok.Tie as tie
+use Rattle.judge.proofs.config_ok.Statement.{statement}
+use Rattle.judge.proofs.config_ok.Tie as tie
 
 wide-requires : tie.Need-wide-requires
 wide-requires c κs = search needs
