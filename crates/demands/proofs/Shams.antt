@@ -27,6 +27,7 @@ use Rattle.entries.specs.Entries.{free, live}
 use Rattle.entries.specs.Entries as entries
 use Rattle.block_table.specs.Table as table
 use Rattle.places.specs.Places as places
+use Rattle.judge.specs.Limits as judge
 use Rattle.block_handler.specs.Call as h
 use Rattle.answers.specs.Parts.{partOf, bodyOf}
 use Rattle.demands.specs.Demand3.{Handler, HasFree, NothingInPlain, Granted, Demand3, callOn, block}
@@ -44,7 +45,7 @@ none-live strict plain i b h y =
     absurd (clash-of false (sym (ap (λ e. live 100 5 e) (getD-replicate 16 i free free b)) ∙ y) refl)
 
 given-one : (strict : Bool) → Granted (config strict) fresh key 0 (sent 5 [] (7 ∷ [])) [] []
-unfolding h.withinLimits h.configOk h.memoriesOk h.whatOk keys.same keys.keyOk keys.isNoKey entries.entryOk entries.clash table.distinct table.tableOk state.isNothing negotiation.requestBlock value.readOf value.sizeOf
+unfolding h.withinLimits judge.configOk judge.memoriesOk h.whatOk keys.same keys.keyOk keys.isNoKey entries.entryOk entries.clash table.distinct table.tableOk state.isNothing negotiation.requestBlock value.readOf value.sizeOf
 given-one strict =
     record {
       entry = inr (has-free strict);
@@ -67,7 +68,7 @@ given-one strict =
     }
 
 given-two : (strict : Bool) → Granted (config strict) fresh key 0 firstBlock (lastBlock ∷ []) later
-unfolding h.withinLimits h.configOk h.memoriesOk h.whatOk keys.same keys.keyOk keys.isNoKey entries.entryOk entries.clash table.distinct table.tableOk state.isNothing negotiation.requestBlock value.readOf value.sizeOf
+unfolding h.withinLimits judge.configOk judge.memoriesOk h.whatOk keys.same keys.keyOk keys.isNoKey entries.entryOk entries.clash table.distinct table.tableOk state.isNothing negotiation.requestBlock value.readOf value.sizeOf
 given-two strict =
     record {
       entry = inr (has-free strict);
@@ -90,7 +91,7 @@ given-two strict =
     }
 
 pub can-be-given : CanBeGiven
-unfolding h.withinLimits h.configOk h.memoriesOk h.whatOk keys.same keys.keyOk keys.isNoKey entries.entryOk entries.clash table.distinct table.tableOk state.isNothing negotiation.requestBlock value.readOf value.sizeOf h.call h.callAt keys.keyOf keys.storedOk keys.stored entries.holds entries.live entries.swept table.sweep places.place places.opened state.assembledOk state.cachedOk state.recordedOk state.stateOk step.badForm step.notNext step.lengthMet step.onward step.taken step.onSplice step.block1Given step.onNegotiated step.stepRequest step.chunked step.onReply step.stepResponse negotiation.negotiated negotiation.within negotiation.replyAt chunk.chunkOf value.made value.largestPower pieces.spliceOf pieces.spliced pieces.pieceAfter memory.patch memory.part memory.pieceOf memory.putPiece
+unfolding h.withinLimits judge.configOk judge.memoriesOk h.whatOk keys.same keys.keyOk keys.isNoKey entries.entryOk entries.clash table.distinct table.tableOk state.isNothing negotiation.requestBlock value.readOf value.sizeOf h.call h.callAt keys.keyOf keys.storedOk keys.stored entries.holds entries.live entries.swept table.sweep places.place places.opened state.assembledOk state.cachedOk state.recordedOk state.stateOk step.badForm step.notNext step.lengthMet step.onward step.taken step.onSplice step.block1Given step.onNegotiated step.stepRequest step.chunked step.onReply step.stepResponse negotiation.negotiated negotiation.within negotiation.replyAt chunk.chunkOf value.made value.largestPower pieces.spliceOf pieces.spliced pieces.pieceAfter memory.patch memory.part memory.pieceOf memory.putPiece
 can-be-given =
     record {
       one = given-one;

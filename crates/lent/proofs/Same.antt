@@ -21,7 +21,7 @@ use Rattle.places.proofs.Places.{opened-own, opened-new}
 use Rattle.places.proofs.Put.{opened-fits}
 use Rattle.judge.specs.Limits.{memoriesOk}
 use Rattle.block_handler.specs.Call.{World, Call, done, withinLimits, rowOf, callAt, call}
-use Rattle.block_handler.proofs.Judged.{config-fits}
+use Rattle.judge.proofs.Judged.{config-fits}
 use Rattle.lent.specs.Lent.{Lent, roomFor, requestLent}
 use Rattle.lent.proofs.Forms.{with-room}
 
