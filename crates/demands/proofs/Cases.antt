@@ -5,7 +5,7 @@ use Rattle.negotiation.specs.Negotiation.{requestBlock, negotiated, within, rep
 use Rattle.negotiation.specs.Chunk.{chunkOf}
 use Rattle.pieces.specs.Memory.{patch}
 use Rattle.pieces.specs.Splice.{spliceOf, spliced, pieceAfter}
-use Rattle.block_state.specs.Step as step
+use Rattle.request_step.specs.Step as step
 use Rattle.demands.specs.Cases.{AllSay, cases}
 
 pub cases-hold : AllSay cases

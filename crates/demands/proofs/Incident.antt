@@ -24,11 +24,12 @@ use Rattle.block_state.specs.declared.BlockState.{BlockState}
 use Rattle.block_state.specs.declared.Answer.the-variants.{Continue, Handed}
 use Rattle.block_state.specs.Message.{Request}
 use Rattle.block_state.specs.State.{assembly, withAssembled, withRecorded}
-use Rattle.block_state.specs.Step.{Left, left, bytesFrom, lengthMet, taken, stepRequest}
-use Rattle.block_state.proofs.Steps.{onward-absent, taken-more, taken-last, spliced-body, given-next, request-given}
+use Rattle.block_state.specs.Step.{Left, left, bytesFrom}
+use Rattle.request_step.specs.Step.{lengthMet, taken, stepRequest}
+use Rattle.request_step.proofs.Steps.{onward-absent, taken-more, taken-last, spliced-body, given-next, request-given}
 use Rattle.block_state.proofs.Tests.{clash-of}
 use Rattle.block_state.specs.State as state
-use Rattle.block_state.specs.Step as step
+use Rattle.request_step.specs.Step as step
 use Rattle.keys.specs.Keys as keys
 use Rattle.entries.specs.Entries as entries
 use Rattle.block_table.specs.Table as table

@@ -20,7 +20,8 @@ use Rattle.block_state.specs.declared.Answer.{Answer}
 use Rattle.block_state.specs.declared.Answer.the-variants.{Continue, TooLarge, Handed, Pass, Served, Plain, Whole, First, Refused}
 use Rattle.block_state.specs.Answers.{said, continue, handed}
 use Rattle.block_state.specs.State as state
-use Rattle.block_state.specs.Step as step
+use Rattle.request_step.specs.Step as step
+use Rattle.response_step.specs.Step as reply
 use Rattle.block_state.proofs.Tests.{by-cases, on-test, clash-of}
 use Rattle.keys.specs.Keys as keys
 use Rattle.entries.specs.Entries.{free, live}
@@ -90,7 +91,7 @@ given-two strict =
     }
 
 pub can-be-given : CanBeGiven
-unfolding h.withinLimits h.configOk h.memoriesOk h.whatOk keys.same keys.keyOk keys.isNoKey entries.entryOk entries.clash table.distinct table.tableOk state.isNothing negotiation.requestBlock value.readOf value.sizeOf h.call h.callAt keys.keyOf keys.storedOk keys.stored entries.holds entries.live entries.swept table.sweep places.place places.opened state.assembledOk state.cachedOk state.recordedOk state.stateOk step.badForm step.notNext step.lengthMet step.onward step.taken step.onSplice step.block1Given step.onNegotiated step.stepRequest step.chunked step.onReply step.stepResponse negotiation.negotiated negotiation.within negotiation.replyAt chunk.chunkOf value.made value.largestPower pieces.spliceOf pieces.spliced pieces.pieceAfter memory.patch memory.part memory.pieceOf memory.putPiece
+unfolding h.withinLimits h.configOk h.memoriesOk h.whatOk keys.same keys.keyOk keys.isNoKey entries.entryOk entries.clash table.distinct table.tableOk state.isNothing negotiation.requestBlock value.readOf value.sizeOf h.call h.callAt keys.keyOf keys.storedOk keys.stored entries.holds entries.live entries.swept table.sweep places.place places.opened state.assembledOk state.cachedOk state.recordedOk state.stateOk step.badForm step.notNext step.lengthMet step.onward step.taken step.onSplice step.block1Given step.onNegotiated step.stepRequest reply.chunked reply.onReply reply.stepResponse negotiation.negotiated negotiation.within negotiation.replyAt chunk.chunkOf value.made value.largestPower pieces.spliceOf pieces.spliced pieces.pieceAfter memory.patch memory.part memory.pieceOf memory.putPiece
 can-be-given =
     record {
       one = given-one;

@@ -27,7 +27,8 @@ use Rattle.block_state.specs.declared.Answer.{Answer}
 use Rattle.block_state.specs.declared.Answer.the-variants as answer
 use Rattle.block_state.specs.Message.{Request}
 use Rattle.block_state.specs.State.{assembly, nothing, withAssembled}
-use Rattle.block_state.specs.Step.{Left, bytesFrom, stepRequest}
+use Rattle.block_state.specs.Step.{Left, bytesFrom}
+use Rattle.request_step.specs.Step.{stepRequest}
 use Rattle.demands.specs.Demand3.{block}
 
 pub data Row : Type 0 where
