@@ -4,7 +4,7 @@ use Rattle.block_value.specs.Value.{largestPower, made, sizeOf, readOf}
 use Rattle.negotiation.specs.Negotiation.{requestBlock, negotiated, within, replyAt}
 use Rattle.negotiation.specs.Chunk.{chunkOf}
 use Rattle.pieces.specs.Memory.{patch}
-use Rattle.pieces.specs.Splice.{spliceOf, spliced, pieceAfter}
+use Rattle.splicing.specs.Splice.{spliceOf, spliced, pieceAfter}
 use Rattle.request_step.specs.Step as step
 use Rattle.demands.specs.Cases.{AllSay, cases}
 

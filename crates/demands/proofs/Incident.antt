@@ -9,11 +9,11 @@ use native.Mathlib.Omega.{arith}
 use lib.ListN.{length, take, drop}
 use lib.Seq.{drop-drop, take-at, drop-at, length-take-le}
 use Rattle.pieces.specs.Memory.{patch, part, pieceOf, putPiece}
-use Rattle.pieces.specs.Splice.{splicedLength, spliceOf, pieceAfter}
-use Rattle.pieces.specs.Splice as pieces
-use Rattle.pieces.specs.declared.Splice.the-variants.{Body}
+use Rattle.splicing.specs.Splice.{splicedLength, spliceOf, pieceAfter}
+use Rattle.splicing.specs.Splice as pieces
+use Rattle.splicing.specs.declared.Splice.the-variants.{Body}
 use Rattle.pieces.proofs.Memory.{drop-part}
-use Rattle.pieces.proofs.Splicing as splicing
+use Rattle.splicing.proofs.Splicing as splicing
 use Rattle.block_value.specs.Value.{sizeOf, made, largestPower, readOf}
 use Rattle.negotiation.specs.Negotiation.{requestBlock, negotiated, replyAt}
 use Rattle.negotiation.specs.Negotiation as negotiation

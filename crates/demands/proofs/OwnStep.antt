@@ -9,11 +9,11 @@ use lib.ListN.{length, take, length-append}
 use lib.Dec.{eqb}
 use borrow.Author.Tests.{le-ltb, eq-eqb, ne-eqb}
 use Rattle.pieces.specs.Memory.{patch, part}
-use Rattle.pieces.specs.Splice.{splicedLength, spliceOf, pieceAfter}
-use Rattle.pieces.specs.declared.Splice.the-variants.{Body}
+use Rattle.splicing.specs.Splice.{splicedLength, spliceOf, pieceAfter}
+use Rattle.splicing.specs.declared.Splice.the-variants.{Body}
 use Rattle.pieces.proofs.Memory.{part-patch}
-use Rattle.pieces.proofs.Splicing.{spliced-next}
-use Rattle.pieces.proofs.Splicing as splicing
+use Rattle.splicing.proofs.Splicing.{spliced-next}
+use Rattle.splicing.proofs.Splicing as splicing
 use Rattle.block_value.specs.Value.{sizeOf}
 use Rattle.block_value.proofs.Laws.{size-least, size-most, exponent-size, made-well}
 use Rattle.negotiation.specs.Negotiation.{requestBlock, replyOf, negotiated}

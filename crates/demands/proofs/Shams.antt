@@ -10,7 +10,7 @@ use lib.Seq.{getD-drop, getD-take}
 use lib.Dec.{leb, ltb}
 use borrow.Author.Tests.{ltb-true, ltb-false}
 use Rattle.pieces.specs.Memory as memory
-use Rattle.pieces.specs.Splice as pieces
+use Rattle.splicing.specs.Splice as pieces
 use Rattle.block_value.specs.Value as value
 use Rattle.negotiation.specs.Negotiation as negotiation
 use Rattle.negotiation.specs.Chunk as chunk

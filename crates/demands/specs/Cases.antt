@@ -18,9 +18,9 @@ use Rattle.negotiation.specs.declared.Negotiated.{Negotiated}
 use Rattle.negotiation.specs.declared.Negotiated.the-variants as reply
 use Rattle.negotiation.specs.declared.Chunk.{Chunk}
 use Rattle.negotiation.specs.declared.Chunk.the-variants as chunk
-use Rattle.pieces.specs.Splice.{spliceOf, spliced}
-use Rattle.pieces.specs.declared.Splice.{Splice}
-use Rattle.pieces.specs.declared.Splice.the-variants as splice
+use Rattle.splicing.specs.Splice.{spliceOf, spliced}
+use Rattle.splicing.specs.declared.Splice.{Splice}
+use Rattle.splicing.specs.declared.Splice.the-variants as splice
 use Rattle.block_state.specs.declared.Config.{Config}
 use Rattle.block_state.specs.declared.BlockState.{BlockState}
 use Rattle.block_state.specs.declared.Answer.{Answer}

@@ -9,11 +9,11 @@ use lib.ListN.{length, take}
 use lib.Seq.{length-take-le}
 use lib.Dec.{ltb, eqb}
 use borrow.Author.Tests.{ltb-false}
-use Rattle.pieces.specs.Splice.{splicedLength, spliceOf, pieceAfter}
-use Rattle.pieces.specs.Splice as pieces
-use Rattle.pieces.specs.declared.Splice.{Splice}
+use Rattle.splicing.specs.Splice.{splicedLength, spliceOf, pieceAfter}
+use Rattle.splicing.specs.Splice as pieces
+use Rattle.splicing.specs.declared.Splice.{Splice}
 use Rattle.pieces.proofs.Memory.{length-patch}
-use Rattle.pieces.proofs.Splicing.{length-spliced}
+use Rattle.splicing.proofs.Splicing.{length-spliced}
 use Rattle.block_value.specs.Value.{blockSize, blockStart, readOf}
 use Rattle.block_value.specs.declared.BlockValue.{BlockValue}
 use Rattle.negotiation.specs.Negotiation.{requestBlock, negotiated}

@@ -7,9 +7,9 @@ use native.Mathlib.Omega.{arith}
 use lib.ListN.{length}
 use lib.Dec.{eqb}
 use borrow.Author.Tests.{eqb-true, not-false}
-use Rattle.pieces.specs.Splice.{spliceOf, pieceAfter}
-use Rattle.pieces.specs.declared.Splice.{Splice}
-use Rattle.pieces.specs.declared.Splice.the-variants as splice
+use Rattle.splicing.specs.Splice.{spliceOf, pieceAfter}
+use Rattle.splicing.specs.declared.Splice.{Splice}
+use Rattle.splicing.specs.declared.Splice.the-variants as splice
 use Rattle.block_value.specs.Value.{blockSize, blockStart}
 use Rattle.block_value.specs.declared.BlockValue.{BlockValue}
 use Rattle.block_value.proofs.Laws.{size-most}

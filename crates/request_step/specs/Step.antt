@@ -5,9 +5,9 @@ use mathlib.Core.Bool.{Bool, cond, not, _&&_, _||_}
 use mathlib.Core.List.{List}
 use lib.ListN.{length}
 use lib.Dec.{ltb, eqb}
-use Rattle.pieces.specs.Splice.{spliceOf, pieceAfter}
-use Rattle.pieces.specs.declared.Splice.{Splice}
-use Rattle.pieces.specs.declared.Splice.the-variants as splice
+use Rattle.splicing.specs.Splice.{spliceOf, pieceAfter}
+use Rattle.splicing.specs.declared.Splice.{Splice}
+use Rattle.splicing.specs.declared.Splice.the-variants as splice
 use Rattle.block_value.specs.Value.{blockSize, blockStart}
 use Rattle.block_value.specs.declared.BlockValue.{BlockValue}
 use Rattle.negotiation.specs.Negotiation.{requestBlock, negotiated}

@@ -10,13 +10,13 @@ use block_value::BlockValue;
 use negotiation::Chunk;
 use negotiation::MaybeBlock;
 use negotiation::Negotiated;
-use pieces::Splice;
+use splicing::Splice;
 ghost use mathlib.Core.Path.{_≡_};
 ghost use mathlib.Core.List.{List};
 ghost use Prim.Native.Nat.{ℕ, _^_, _<_, _≤_};
 ghost use lib.ListN.{length};
 ghost use Rattle.negotiation.specs.Chunk.{chunkOf};
-ghost use Rattle.pieces.specs.Splice.{spliceOf};
+ghost use Rattle.splicing.specs.Splice.{spliceOf};
 ghost use Rattle.block_value.specs.Value.{blockSize, blockStart};
 ghost use Rattle.block_state.specs.Step.{left};
 ghost use Rattle.request_step.specs.Step.{badForm, notNext, lengthMet, served, onward, taken, onSplice, block1Given, stepRequest};
@@ -131,7 +131,7 @@ fn splice_block(
 {
     let start = block_value::start(block);
     let size = block_value::size(block);
-    match pieces::extending_splice(piece, len, start, size, payload) {
+    match splicing::extending_splice(piece, len, start, size, payload) {
         Splice::Refused(n) => state::refused(state, n),
         Splice::Body(n) => take_body(home, away, state, block2, block, reply, n),
     }

@@ -163,7 +163,7 @@ pub fn run_line(
     ensures { λ z. ⌜ Runs config (world table (now (upload .entry)) (now (response .entry))) n (lineOf (now (line .entry))) (now (out .entry)) at (world (z .table) (now (upload .exit)) (now (response .exit))) (now (out .exit)) (z .at) ⌝ }
     ensures { λ z. ⌜ z .at ≤ at + 2 * 1048576 + 200 ⌝ }
 {
-    match script::read_line(line, key, first, second, payload) {
+    match script_line::read_line(line, key, first, second, payload) {
         Line::Request(r) => ask(
             r,
             config,

@@ -1,7 +1,7 @@
 use mathlib.Core.Path.{sym, ap, _∙_}
 use Prim.Native.Nat.{ℕ}
 use lib.ListN.{length}
-use Rattle.pieces.specs.Splice.{spliceOf}
+use Rattle.splicing.specs.Splice.{spliceOf}
 use Rattle.block_value.specs.Value.{blockSize, blockStart}
 use Rattle.request_step.specs.Step.{onSplice}
 use Rattle.block_state.proofs.Steps.{returned}

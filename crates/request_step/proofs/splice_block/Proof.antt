@@ -3,9 +3,9 @@ use mathlib.Core.List.{List}
 use Prim.Native.Nat.{ℕ}
 use native.Mathlib.Omega.{arith}
 use lib.ListN.{length}
-use Rattle.pieces.specs.Splice.{spliceOf, leftBy}
-use Rattle.pieces.specs.declared.Splice.{Splice}
-use Rattle.pieces.proofs.Splicing.{taken-is}
+use Rattle.splicing.specs.Splice.{spliceOf, leftBy}
+use Rattle.splicing.specs.declared.Splice.{Splice}
+use Rattle.splicing.proofs.Splicing.{taken-is}
 use Rattle.block_value.specs.Value.{blockSize, blockStart}
 use Rattle.block_state.specs.declared.Answer.the-variants.{Refused}
 use Rattle.block_state.specs.Step.{left}

@@ -4,9 +4,9 @@ use mathlib.Core.Bool.{cond}
 use mathlib.Core.List.{List, _++_}
 use lib.Dec.{ltb}
 use lib.ListN.{length, take, drop, replicate}
 use Rattle.pieces.specs.Memory.{patch}
-use Rattle.pieces.specs.declared.Splice.{Splice}
-use Rattle.pieces.specs.declared.Splice.the-variants.{Body, Refused}
+use Rattle.splicing.specs.declared.Splice.{Splice}
+use Rattle.splicing.specs.declared.Splice.the-variants.{Body, Refused}
 
 -- "Old bytes before a (zeros where a > L), the payload, old bytes from e on", where e = a + s.
 unfoldable pub spliced : List ℕ → ℕ → ℕ → List ℕ → List ℕ

@@ -9,10 +9,10 @@ use lib.Dec.{ltb}
 use lib.ListN.{length, take, drop, replicate, length-append, length-take, length-drop, length-replicate, drop-of-length-le}
 use lib.Seq.{take-all, take-take, take-add, drop-at, length-take-le}
 use borrow.Author.Tests.{lt-ltb, le-ltb, ltb-true, ltb-false}
-use Rattle.pieces.specs.declared.Splice.the-variants.{Body, Refused}
+use Rattle.splicing.specs.declared.Splice.the-variants.{Body, Refused}
 use Rattle.pieces.specs.Memory.{patch, part}
-use Rattle.pieces.specs.Splice.{spliced, splicedLength, spliceOf, pieceAfter}
+use Rattle.splicing.specs.Splice.{spliced, splicedLength, spliceOf, pieceAfter}
 use Rattle.pieces.proofs.Memory.{patch-after, patch-front}
 
 -- a patch further on is one from the start, with the bytes before it as they are
 patch-start : (m : List ℕ) (k : ℕ) (b : List ℕ) → k ≤ length m → patch m k b ≡ patch m 0 (take k m ++ b)

@@ -2,11 +2,11 @@ use mathlib.Core.Path.{ap, _∙_}
 use mathlib.Core.List.{List}
 use Prim.Native.Nat.{ℕ}
 use native.Mathlib.Omega.{arith}
 use Rattle.pieces.specs.Memory.{patch}
-use Rattle.pieces.proofs.Splicing.{splice-inside, splice-past, splice-over}
+use Rattle.splicing.proofs.Splicing.{splice-inside, splice-past, splice-over}
 use borrow.Author.Needs.{needs}
-use Rattle.pieces.proofs.replace.Statement.{statement}
-use Rattle.pieces.proofs.replace.Tie as tie
+use Rattle.splicing.proofs.replace.Statement.{statement}
+use Rattle.splicing.proofs.replace.Tie as tie
 
 add-end : tie.Need-add-end
 add-end c = search needs

@@ -2,19 +2,46 @@
 use mathlib.Core.Path.{_≡_, refl}
 use mathlib.Core.Bool.{Bool, true, false, cond}
 use Prim.Native.Nat.{ℕ, _+_, _≤_, _<_}
+use native.Mathlib.Omega.{arith}
 use lib.Dec.{eqb}
 use lib.ListN.{length, getD, drop}
 use borrow.Author.Tests.{lt-ltb, le-ltb, eq-eqb, ne-eqb}
 use Rattle.script.specs.Line.{Bytes, Said, unreadable, fields, requestOf, responseOf, six, kindOf, lineOf, between, Fields, Parts}
 use Rattle.script.specs.declared.Ends.{Ends}
 use Rattle.script.specs.declared.Split.{Split}
 use Rattle.script.specs.declared.Split.the-variants as split
+use Rattle.script.proofs.Splitting.{six-fields}
 
-pub six-fields : (l : Bytes) (from : ℕ) {r : Split} {e : Ends} → r ≡ split.Six e → Parts l from r → Fields l from (e .first) (e .second) (e .third) (e .fourth) (e .fifth)
-six-fields l from q h = rw q at h
+-- the six fields after the kind: each starts past the one before it, and ends within the line
+pub record Order (n a b c d e : ℕ) : Type 0 where
+  pub from1 : 2 ≤ a
+  pub from2 : a + 1 ≤ b
+  pub from3 : b + 1 ≤ c
+  pub from4 : c + 1 ≤ d
+  pub from5 : d + 1 ≤ e
+  pub from6 : e + 1 ≤ n
+  pub to1 : a ≤ n
+  pub to2 : b ≤ n
+  pub to3 : c ≤ n
+  pub to4 : d ≤ n
+  pub to5 : e ≤ n
 
-pub not-six-fields : (l : Bytes) (from : ℕ) {r : Split} → r ≡ split.Other → Parts l from r → eqb (length (fields (drop from l))) 6 ≡ false
-not-six-fields l from q h = rw q at h
+pub order : (l : Bytes) {r : Split} {e : Ends} → r ≡ split.Six e → Parts l 2 r → Order (length l) (e .first) (e .second) (e .third) (e .fourth) (e .fifth)
+order l q h =
+    let f = six-fields l 2 q h in
+    record {
+      from1 = f .start;
+      from2 = omega (arith, f .one);
+      from3 = omega (arith, f .two);
+      from4 = omega (arith, f .three);
+      from5 = omega (arith, f .four);
+      from6 = omega (arith, f .five);
+      to1 = omega (arith, f .one, f .two, f .three, f .four, f .five);
+      to2 = omega (arith, f .two, f .three, f .four, f .five);
+      to3 = omega (arith, f .three, f .four, f .five);
+      to4 = omega (arith, f .four, f .five);
+      to5 = omega (arith, f .five);
+    }
 
 pub short-line : (l : Bytes) → length l < 2 → unreadable ≡ lineOf l
 unfolding lineOf

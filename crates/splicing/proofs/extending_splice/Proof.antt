@@ -1,10 +1,10 @@
 use mathlib.Core.Path.{refl, sym, ap, _∙_}
 use native.Mathlib.Omega.{arith}
-use Rattle.pieces.specs.declared.Splice.the-variants.{Body}
-use Rattle.pieces.proofs.Splicing.{too-far, too-small, taken}
+use Rattle.splicing.specs.declared.Splice.the-variants.{Body}
+use Rattle.splicing.proofs.Splicing.{too-far, too-small, taken}
 use borrow.Author.Needs.{needs}
-use Rattle.pieces.proofs.extending_splice.Statement.{statement}
-use Rattle.pieces.proofs.extending_splice.Tie as tie
+use Rattle.splicing.proofs.extending_splice.Statement.{statement}
+use Rattle.splicing.proofs.extending_splice.Tie as tie
 
 add-reach : tie.Need-add-reach
 add-reach c = search needs
