@@ -27,8 +27,11 @@ use Rattle.block_state.specs.declared.Answer.the-variants.{Continue, Handed}
 use Rattle.block_state.specs.Message.{Request}
 use Rattle.block_state.specs.State.{assembly, withAssembled, withRecorded}
 use Rattle.block_state.specs.Step.{left, bytesFrom}
-use Rattle.request_step.specs.Step.{badForm, notNext, lengthMet, taken, stepRequest}
-use Rattle.request_step.proofs.Steps.{onward-absent, taken-more, taken-last, spliced-body, given-next, request-given}
+use Rattle.request_block1.specs.Block1.{badForm, notNext, lengthMet, taken}
+use Rattle.request_step.specs.Step.{stepRequest}
+use Rattle.request_block2.proofs.Steps.{onward-absent}
+use Rattle.request_block1.proofs.Steps.{taken-more, taken-last, spliced-body, given-next}
+use Rattle.request_step.proofs.Steps.{request-given}
 use Rattle.demands.specs.Demand3.{block, Fills}
 
 -- a block that is left room comes out of the negotiation as it was asked, with no more, since its payload is no longer than its size

@@ -66,7 +66,7 @@ fn run(
     let number = state.number;
     let u = replay_control::memory_of(config.upload);
     let v = replay_control::memory_of(config.response);
-    let ran = script_call::run_line(
+    let ran = call_line::run_line(
         config,
         table,
         &mut upload[0..u],
