@@ -1,9 +1,9 @@
 use mathlib.Core.Path.{_≡_, refl, sym, ap, _∙_}
 use native.Mathlib.Omega.{arith}
-use Rattle.line_runner.proofs.Leaving.{leaves-zeros}
+use Rattle.fresh_start.proofs.Fronts.{leaves-zeros}
 use borrow.Author.Needs.{needs}
-use Rattle.line_runner.proofs.line.begin.Statement.{statement}
-use Rattle.line_runner.proofs.line.begin.Tie as tie
+use Rattle.fresh_start.proofs.begin.Statement.{statement}
+use Rattle.fresh_start.proofs.begin.Tie as tie
 
 memory-of-requires : tie.Need-memory-of-requires
 memory-of-requires c κs = search needs
