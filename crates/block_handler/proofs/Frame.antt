@@ -14,10 +14,14 @@ use Rattle.pieces.proofs.Memory.{piece-order, length-piece, length-put, piece-p
 use Rattle.block_state.specs.declared.Config.{Config}
 use Rattle.block_state.specs.declared.Answer.the-variants.{Refused}
 use Rattle.block_state.specs.Message.{Request, Response, What, request, response, WhatBytes}
-use Rattle.block_state.specs.Step.{Left, stepRequest, stepResponse}
+use Rattle.block_state.specs.Step.{Left}
+use Rattle.request_step.specs.Step.{stepRequest}
+use Rattle.response_step.specs.Step.{stepResponse}
 use Rattle.block_state.proofs.Tests.{ands, and-both, on-test}
 use Rattle.block_state.proofs.Fits.{StateFits}
-use Rattle.block_state.proofs.StepKeeps.{Keeps, request-keeps, response-keeps}
+use Rattle.block_state.proofs.StepKeeps.{Keeps}
+use Rattle.request_step.proofs.StepKeeps.{request-keeps}
+use Rattle.response_step.proofs.StepKeeps.{response-keeps}
 use Rattle.keys.specs.declared.Key.{Key}
 use Rattle.entries.specs.declared.Entry.{Entry}
 use Rattle.keys.specs.Keys.{same, keyOk}

@@ -15,7 +15,9 @@ use Rattle.block_state.specs.declared.Answer.{Answer}
 use Rattle.block_state.specs.declared.Answer.the-variants.{Refused}
 use Rattle.block_state.specs.Message.{Request, Response, request, response}
 use Rattle.block_state.specs.State.{nothing}
-use Rattle.block_state.specs.Step.{left, stepRequest, stepResponse}
+use Rattle.block_state.specs.Step.{left}
+use Rattle.request_step.specs.Step.{stepRequest}
+use Rattle.response_step.specs.Step.{stepResponse}
 use Rattle.block_state.proofs.Tests.{by-cases}
 use Rattle.entries.specs.declared.Entry.{Entry}
 use Rattle.block_table.specs.declared.Table.{Table}

@@ -10,7 +10,9 @@ use Rattle.block_state.specs.declared.BlockState.{BlockState}
 use Rattle.block_state.specs.declared.Answer.{Answer}
 use Rattle.block_state.specs.declared.Answer.the-variants.{Refused}
 use Rattle.block_state.specs.Message.{What, request, response}
-use Rattle.block_state.specs.Step.{Left, stepRequest, stepResponse}
+use Rattle.block_state.specs.Step.{Left}
+use Rattle.request_step.specs.Step.{stepRequest}
+use Rattle.response_step.specs.Step.{stepResponse}
 use Rattle.keys.specs.declared.Key.{Key}
 use Rattle.entries.specs.declared.Entry.{Entry}
 use Rattle.block_table.specs.declared.Table.{Table}

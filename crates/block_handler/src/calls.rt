@@ -75,7 +75,7 @@ fn request_at<'a>(
     let home = i * config.upload;
     let away = i * config.response;
     let end = home + config.upload;
-    let step = block_state::step_request(
+    let step = request_step::step_request(
         config,
         home,
         away,
@@ -123,7 +123,7 @@ fn response_at<'a>(
     let state = e.state;
     let from = i * config.response;
     let end = from + config.response;
-    let step = block_state::step_response(
+    let step = response_step::step_response(
         config,
         state,
         &mut response[from..end],

@@ -1,13 +1,8 @@
-// One key's state, and one call's step on it and on its piece of memory, by value.
+// One key's state by value, and what a call's step on it answers.
 use block_value::BlockValue;
 use negotiation::MaybeBlock;
 
-mod request;
-mod response;
-mod state;
-
-pub use request::step_request;
-pub use response::step_response;
+pub mod state;
 
 // BlockHandlerConfig in the Rust, with the mode and the sizes of the pieces.
 #[repr(C)]

@@ -8,8 +8,8 @@
 use mathlib.Core.Path.{_≡_, sym, ap, _∙_}
 use mathlib.Core.List.{List}
 use Prim.Native.Nat.{ℕ}
-use Rattle.pieces.specs.Splice.{leftBy}
-use Rattle.pieces.specs.declared.Splice.{Splice}
+use Rattle.splicing.specs.Splice.{leftBy}
+use Rattle.splicing.specs.declared.Splice.{Splice}
 use Rattle.block_state.specs.declared.Config.{Config}
 use Rattle.block_state.specs.declared.BlockState.{BlockState}
 use Rattle.block_state.specs.declared.Answer.{Answer}

@@ -9,11 +9,11 @@ use native.Mathlib.Omega.{arith}
 use lib.ListN.{length, take, drop}
 use lib.Seq.{drop-drop, take-at, drop-at, length-take-le}
 use Rattle.pieces.specs.Memory.{patch, part, pieceOf, putPiece}
-use Rattle.pieces.specs.Splice.{splicedLength, spliceOf, pieceAfter}
-use Rattle.pieces.specs.Splice as pieces
-use Rattle.pieces.specs.declared.Splice.the-variants.{Body}
+use Rattle.splicing.specs.Splice.{splicedLength, spliceOf, pieceAfter}
+use Rattle.splicing.specs.Splice as pieces
+use Rattle.splicing.specs.declared.Splice.the-variants.{Body}
 use Rattle.pieces.proofs.Memory.{drop-part}
-use Rattle.pieces.proofs.Splicing as splicing
+use Rattle.splicing.proofs.Splicing as splicing
 use Rattle.block_value.specs.Value.{sizeOf, made, largestPower, readOf}
 use Rattle.negotiation.specs.Negotiation.{requestBlock, negotiated, replyAt}
 use Rattle.negotiation.specs.Negotiation as negotiation
@@ -24,11 +24,17 @@ use Rattle.block_state.specs.declared.BlockState.{BlockState}
 use Rattle.block_state.specs.declared.Answer.the-variants.{Continue, Handed}
 use Rattle.block_state.specs.Message.{Request}
 use Rattle.block_state.specs.State.{assembly, withAssembled, withRecorded}
-use Rattle.block_state.specs.Step.{Left, left, bytesFrom, lengthMet, taken, stepRequest}
-use Rattle.block_state.proofs.Steps.{onward-absent, taken-more, taken-last, spliced-body, given-next, request-given}
+use Rattle.block_state.specs.Step.{Left, left, bytesFrom}
+use Rattle.request_block1.specs.Block1.{lengthMet, taken}
+use Rattle.request_step.specs.Step.{stepRequest}
+use Rattle.request_block2.proofs.Steps.{onward-absent}
+use Rattle.request_block1.proofs.Steps.{taken-more, taken-last, spliced-body, given-next}
+use Rattle.request_step.proofs.Steps.{request-given}
 use Rattle.block_state.proofs.Tests.{clash-of}
 use Rattle.block_state.specs.State as state
-use Rattle.block_state.specs.Step as step
+use Rattle.request_block2.specs.Block2 as block2
+use Rattle.request_block1.specs.Block1 as block1
+use Rattle.request_step.specs.Step as step
 use Rattle.keys.specs.Keys as keys
 use Rattle.entries.specs.Entries as entries
 use Rattle.block_table.specs.Table as table
@@ -127,7 +133,7 @@ tail-kept c home at s u x l first last plain hx hl h fits hu f g =
 
 -- the same by whole calls, by computation
 pub story : Story
-unfolding h.call h.withinLimits judge.configOk judge.memoriesOk h.whatOk h.callAt keys.same keys.keyOk keys.keyOf keys.storedOk keys.stored keys.isNoKey entries.holds entries.entryOk entries.clash table.distinct table.tableOk entries.live entries.swept table.sweep places.place places.opened state.assembledOk state.cachedOk state.recordedOk state.stateOk state.isNothing step.badForm step.notNext step.lengthMet step.onward step.taken step.onSplice step.block1Given step.onNegotiated step.stepRequest requestBlock readOf negotiated negotiation.within replyAt made largestPower sizeOf spliceOf pieces.spliced pieceAfter patch part pieceOf putPiece partOf
+unfolding h.call h.withinLimits judge.configOk judge.memoriesOk h.whatOk h.callAt keys.same keys.keyOk keys.keyOf keys.storedOk keys.stored keys.isNoKey entries.holds entries.entryOk entries.clash table.distinct table.tableOk entries.live entries.swept table.sweep places.place places.opened state.assembledOk state.cachedOk state.recordedOk state.stateOk state.isNothing block1.badForm block1.notNext block1.lengthMet block2.onward block1.taken block1.onSplice block1.block1Given step.onNegotiated step.stepRequest requestBlock readOf negotiated negotiation.within replyAt made largestPower sizeOf spliceOf pieces.spliced pieceAfter patch part pieceOf putPiece partOf
 story =
     record {
       plain = (refl, (refl, refl));

@@ -9,11 +9,11 @@ use lib.ListN.{length, take, length-append}
 use lib.Dec.{eqb}
 use borrow.Author.Tests.{le-ltb, eq-eqb, ne-eqb}
 use Rattle.pieces.specs.Memory.{patch, part}
-use Rattle.pieces.specs.Splice.{splicedLength, spliceOf, pieceAfter}
-use Rattle.pieces.specs.declared.Splice.the-variants.{Body}
+use Rattle.splicing.specs.Splice.{splicedLength, spliceOf, pieceAfter}
+use Rattle.splicing.specs.declared.Splice.the-variants.{Body}
 use Rattle.pieces.proofs.Memory.{part-patch}
-use Rattle.pieces.proofs.Splicing.{spliced-next}
-use Rattle.pieces.proofs.Splicing as splicing
+use Rattle.splicing.proofs.Splicing.{spliced-next}
+use Rattle.splicing.proofs.Splicing as splicing
 use Rattle.block_value.specs.Value.{sizeOf}
 use Rattle.block_value.proofs.Laws.{size-least, size-most, exponent-size, made-well}
 use Rattle.negotiation.specs.Negotiation.{requestBlock, replyOf, negotiated}
@@ -26,8 +26,12 @@ use Rattle.block_state.specs.declared.BlockState.{BlockState}
 use Rattle.block_state.specs.declared.Answer.the-variants.{Continue, Handed}
 use Rattle.block_state.specs.Message.{Request}
 use Rattle.block_state.specs.State.{assembly, withAssembled, withRecorded}
-use Rattle.block_state.specs.Step.{left, bytesFrom, badForm, notNext, lengthMet, taken, stepRequest}
-use Rattle.block_state.proofs.Steps.{onward-absent, taken-more, taken-last, spliced-body, given-next, request-given}
+use Rattle.block_state.specs.Step.{left, bytesFrom}
+use Rattle.request_block1.specs.Block1.{badForm, notNext, lengthMet, taken}
+use Rattle.request_step.specs.Step.{stepRequest}
+use Rattle.request_block2.proofs.Steps.{onward-absent}
+use Rattle.request_block1.proofs.Steps.{taken-more, taken-last, spliced-body, given-next}
+use Rattle.request_step.proofs.Steps.{request-given}
 use Rattle.demands.specs.Demand3.{block, Fills}
 
 -- a block that is left room comes out of the negotiation as it was asked, with no more, since its payload is no longer than its size

@@ -10,7 +10,7 @@ use lib.Seq.{getD-drop, getD-take}
 use lib.Dec.{leb, ltb}
 use borrow.Author.Tests.{ltb-true, ltb-false}
 use Rattle.pieces.specs.Memory as memory
-use Rattle.pieces.specs.Splice as pieces
+use Rattle.splicing.specs.Splice as pieces
 use Rattle.block_value.specs.Value as value
 use Rattle.negotiation.specs.Negotiation as negotiation
 use Rattle.negotiation.specs.Chunk as chunk
@@ -20,7 +20,10 @@ use Rattle.block_state.specs.declared.Answer.{Answer}
 use Rattle.block_state.specs.declared.Answer.the-variants.{Continue, TooLarge, Handed, Pass, Served, Plain, Whole, First, Refused}
 use Rattle.block_state.specs.Answers.{said, continue, handed}
 use Rattle.block_state.specs.State as state
-use Rattle.block_state.specs.Step as step
+use Rattle.request_block2.specs.Block2 as block2
+use Rattle.request_block1.specs.Block1 as block1
+use Rattle.request_step.specs.Step as step
+use Rattle.response_step.specs.Step as reply
 use Rattle.block_state.proofs.Tests.{by-cases, on-test, clash-of}
 use Rattle.keys.specs.Keys as keys
 use Rattle.entries.specs.Entries.{free, live}
@@ -91,7 +94,7 @@ given-two strict =
     }
 
 pub can-be-given : CanBeGiven
-unfolding h.withinLimits judge.configOk judge.memoriesOk h.whatOk keys.same keys.keyOk keys.isNoKey entries.entryOk entries.clash table.distinct table.tableOk state.isNothing negotiation.requestBlock value.readOf value.sizeOf h.call h.callAt keys.keyOf keys.storedOk keys.stored entries.holds entries.live entries.swept table.sweep places.place places.opened state.assembledOk state.cachedOk state.recordedOk state.stateOk step.badForm step.notNext step.lengthMet step.onward step.taken step.onSplice step.block1Given step.onNegotiated step.stepRequest step.chunked step.onReply step.stepResponse negotiation.negotiated negotiation.within negotiation.replyAt chunk.chunkOf value.made value.largestPower pieces.spliceOf pieces.spliced pieces.pieceAfter memory.patch memory.part memory.pieceOf memory.putPiece
+unfolding h.withinLimits judge.configOk judge.memoriesOk h.whatOk keys.same keys.keyOk keys.isNoKey entries.entryOk entries.clash table.distinct table.tableOk state.isNothing negotiation.requestBlock value.readOf value.sizeOf h.call h.callAt keys.keyOf keys.storedOk keys.stored entries.holds entries.live entries.swept table.sweep places.place places.opened state.assembledOk state.cachedOk state.recordedOk state.stateOk block1.badForm block1.notNext block1.lengthMet block2.onward block1.taken block1.onSplice block1.block1Given step.onNegotiated step.stepRequest reply.chunked reply.onReply reply.stepResponse negotiation.negotiated negotiation.within negotiation.replyAt chunk.chunkOf value.made value.largestPower pieces.spliceOf pieces.spliced pieces.pieceAfter memory.patch memory.part memory.pieceOf memory.putPiece
 can-be-given =
     record {
       one = given-one;

@@ -18,16 +18,17 @@ use Rattle.negotiation.specs.declared.Negotiated.{Negotiated}
 use Rattle.negotiation.specs.declared.Negotiated.the-variants as reply
 use Rattle.negotiation.specs.declared.Chunk.{Chunk}
 use Rattle.negotiation.specs.declared.Chunk.the-variants as chunk
-use Rattle.pieces.specs.Splice.{spliceOf, spliced}
-use Rattle.pieces.specs.declared.Splice.{Splice}
-use Rattle.pieces.specs.declared.Splice.the-variants as splice
+use Rattle.splicing.specs.Splice.{spliceOf, spliced}
+use Rattle.splicing.specs.declared.Splice.{Splice}
+use Rattle.splicing.specs.declared.Splice.the-variants as splice
 use Rattle.block_state.specs.declared.Config.{Config}
 use Rattle.block_state.specs.declared.BlockState.{BlockState}
 use Rattle.block_state.specs.declared.Answer.{Answer}
 use Rattle.block_state.specs.declared.Answer.the-variants as answer
 use Rattle.block_state.specs.Message.{Request}
 use Rattle.block_state.specs.State.{assembly, nothing, withAssembled}
-use Rattle.block_state.specs.Step.{Left, bytesFrom, stepRequest}
+use Rattle.block_state.specs.Step.{Left, bytesFrom}
+use Rattle.request_step.specs.Step.{stepRequest}
 use Rattle.demands.specs.Demand3.{block}
 
 pub data Row : Type 0 where

@@ -16,7 +16,8 @@ use Rattle.block_state.specs.declared.BlockState.{BlockState}
 use Rattle.block_state.specs.declared.Answer.the-variants.{Continue, Handed}
 use Rattle.block_state.specs.Message.{Request}
 use Rattle.block_state.specs.State.{assembly, nothing, withAssembled}
-use Rattle.block_state.specs.Step.{Left, bytesFrom, stepRequest}
+use Rattle.block_state.specs.Step.{Left, bytesFrom}
+use Rattle.request_step.specs.Step.{stepRequest}
 use Rattle.keys.specs.Keys.{stored}
 use Rattle.entries.specs.Entries.{inUse, free}
 use Rattle.block_handler.specs.Call.{World, Call, call}

@@ -9,7 +9,7 @@ use borrow.Author.Tests.{eqb-true, ltb-true, lt-ltb, le-ltb}
 use Rattle.block_state.specs.declared.Config.{Config}
 use Rattle.block_state.specs.declared.Answer.the-variants.{Refused}
 use Rattle.block_state.specs.Message.{Request}
-use Rattle.block_state.specs.Step.{stepRequest}
+use Rattle.request_step.specs.Step.{stepRequest}
 use Rattle.block_state.specs.Contract.{Room}
 use Rattle.block_state.proofs.Tests.{ands}
 use Rattle.block_state.proofs.Fits.{StateFits, state-fits, assembled-most}

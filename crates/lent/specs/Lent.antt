@@ -9,7 +9,8 @@ use Rattle.block_state.specs.declared.Answer.{Answer}
 use Rattle.block_state.specs.declared.Answer.the-variants.{Refused}
 use Rattle.block_state.specs.Message.{Request}
 use Rattle.block_state.specs.State.{stateOk}
-use Rattle.block_state.specs.Step.{Left, stepRequest}
+use Rattle.block_state.specs.Step.{Left}
+use Rattle.request_step.specs.Step.{stepRequest}
 use Rattle.entries.specs.declared.Entry.{Entry}
 use Rattle.entries.specs.Entries.{inUse}
 

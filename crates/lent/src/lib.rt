@@ -67,7 +67,7 @@ fn step_request<'a>(
     if !room_for(config, home, away, time, e, piece.len()) {
         return refused(e);
     }
-    let step = block_state::step_request(
+    let step = request_step::step_request(
         config,
         home,
         away,

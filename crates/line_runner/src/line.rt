@@ -1,5 +1,4 @@
 // One line, whatever it is.
-use block_state::Config;
 use replay_control::Control;
 use script_state::State;
 use script_state::Step;
@@ -7,38 +6,8 @@ ghost use mathlib.Core.Path.{_≡_};
 ghost use Prim.Native.Nat.{_+_, _*_, _≤_};
 ghost use lib.ListN.{length};
 ghost use Rattle.script_text.specs.Text.{Put};
-ghost use Rattle.line_runner.specs.Line.{fresh, stateShown, called, controlled, lineRun, worldIn, Leaves};
-
-// A fresh start: an empty table, and memories of zeros.
-fn begin(
-    config: Config,
-    number: u64,
-    upload: &mut [u8],
-    response: &mut [u8],
-    out: &mut [u8],
-    at: usize,
-) -> Step
-    requires { ⌜ (1048576 ≤ length (now upload)) × (1048576 ≤ length (now response)) ⌝ }
-    requires { ⌜ at + 2 * 1048576 + 200 ≤ length (now out) ⌝ }
-    ensures { λ r. ⌜ Leaves (fresh config number) number (now (upload .entry)) (now (response .entry)) (r .state) (now (upload .exit)) (now (response .exit)) ⌝ }
-    ensures { λ r. ⌜ Put (now (out .entry)) at (fresh config number .text) (now (out .exit)) (r .at) ⌝ }
-    ensures { λ r. ⌜ r .at ≤ at + 2 * 1048576 + 200 ⌝ }
-{
-    let u = replay_control::memory_of(config.upload);
-    let v = replay_control::memory_of(config.response);
-    pieces::zero_fill(upload, 0, u);
-    pieces::zero_fill(response, 0, v);
-    let next = replay_control::put_config(out, at, number);
-    let table = block_table::fresh();
-    Step {
-        state: State {
-            config,
-            table,
-            number,
-        },
-        at: next,
-    }
-}
+ghost use Rattle.fresh_start.specs.Leaves.{worldIn, Leaves};
+ghost use Rattle.line_runner.specs.Line.{stateShown, called, controlled, lineRun};
 
 // A line that is a call, or that cannot be read.
 fn run(
@@ -66,7 +35,7 @@ fn run(
     let number = state.number;
     let u = replay_control::memory_of(config.upload);
     let v = replay_control::memory_of(config.response);
-    let ran = script_call::run_line(
+    let ran = call_line::run_line(
         config,
         table,
         &mut upload[0..u],
@@ -148,7 +117,14 @@ pub fn run_any(
         );
     }
     match replay_control::control_of(line) {
-        Control::Fresh(config) => begin(config, state.number, upload, response, out, at),
+        Control::Fresh(config) => fresh_start::begin(
+            config,
+            state.number,
+            upload,
+            response,
+            out,
+            at,
+        ),
         Control::Show => show(state, upload, response, out, at),
         Control::Other => run(
             state,

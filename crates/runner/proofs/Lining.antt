@@ -14,7 +14,7 @@ use Rattle.script_text.specs.Text.{Put}
 use Rattle.script.proofs.Splitting.{next-field, last-field, some-field}
 use Rattle.script_state.specs.declared.State.{State}
 use Rattle.script_state.specs.Start.{header, begun}
-use Rattle.line_runner.specs.Line.{Leaves}
+use Rattle.fresh_start.specs.Leaves.{Leaves}
 use Rattle.runner.specs.Lines.{Standing, standing, nextLine, afterLine, afterLines, waitsAfter, waitsAfterLines, lastOf, unended, afterLast, lastText, afterScript, waitsAfterScript}
 
 -- ---- one line after another

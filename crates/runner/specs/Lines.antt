@@ -9,7 +9,8 @@ use Rattle.block_handler.specs.Call.{World}
 use Rattle.script.specs.Line.{cutAt}
 use Rattle.script_state.specs.declared.State.{State}
 use Rattle.script_state.specs.Start.{header}
-use Rattle.line_runner.specs.Line.{After, lineRun, worldIn}
+use Rattle.fresh_start.specs.Leaves.{After, worldIn}
+use Rattle.line_runner.specs.Line.{lineRun}
 
 -- Where a script stands: the number is that of the last line.
 pub record Standing : Type 0 where

@@ -1,3 +1,2 @@
 pub mod Splitting
-pub mod Lines
 pub mod Back

@@ -9,7 +9,10 @@ use lib.Dec.{eqb}
 use lib.ListN.{length, getD, take, drop, length-drop, drop-of-length-le}
 use lib.Seq.{drop-cons, take-suc, getD-drop}
 use borrow.Author.Tests.{lt-ltb, le-ltb, eq-eqb, ne-eqb}
-use Rattle.script.specs.Line.{push, cutAt, fields, between, UpTo}
+use Rattle.script.specs.Line.{Bytes, push, cutAt, fields, between, UpTo, Fields, Parts}
+use Rattle.script.specs.declared.Ends.{Ends}
+use Rattle.script.specs.declared.Split.{Split}
+use Rattle.script.specs.declared.Split.the-variants as split
 
 -- bytes before the first field
 abbrev pub pushAll : List ℕ → List (List ℕ) → List (List ℕ)
@@ -105,3 +108,10 @@ some-field mark (x ∷ xs) = go (eqb x mark)
 -- six fields and more are not six
 pub seven : (l : List ℕ) → eqb (suc (suc (suc (suc (suc (suc (length (fields l)))))))) 6 ≡ false
 seven l = ne-eqb (suc (suc (suc (suc (suc (suc (length (fields l)))))))) 6 (λ w. omega (arith, some-field 32 l, w))
+
+-- what an answer of the cut says
+pub six-fields : (l : Bytes) (from : ℕ) {r : Split} {e : Ends} → r ≡ split.Six e → Parts l from r → Fields l from (e .first) (e .second) (e .third) (e .fourth) (e .fifth)
+six-fields l from q h = rw q at h
+
+pub not-six-fields : (l : Bytes) (from : ℕ) {r : Split} → r ≡ split.Other → Parts l from r → eqb (length (fields (drop from l))) 6 ≡ false
+not-six-fields l from q h = rw q at h

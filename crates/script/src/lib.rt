@@ -1,10 +1,11 @@
-// A script line, over lent slices: its fields cut at spaces, and what they say.
+// The fields of a script line, over lent slices: cut at spaces, and what they say.
 use script_fields::Found;
 
 mod read;
 
 pub use read::mark_from;
-pub use read::read_line;
+pub use read::request_of;
+pub use read::response_of;
 pub use read::split_six;
 
 // Where the first five of six fields end: each at a space.

@@ -1,6 +1,5 @@
-// One line that is a call.
+// The call that a line says, made and printed.
 use block_handler::Outcome;
-use block_state::Answer;
 use block_state::Config;
 use block_table::Table;
 use script::Line;
@@ -10,32 +9,16 @@ ghost use mathlib.Core.Path.{_≡_};
 ghost use Prim.Native.Nat.{_+_, _*_, _≤_};
 ghost use lib.ListN.{length};
 ghost use Rattle.block_handler.specs.Contract.{world};
-ghost use Rattle.script.specs.Line.{InBuffers, saidBy, lineOf};
+ghost use Rattle.script.specs.Line.{InBuffers, saidBy};
 ghost use Rattle.answer_text.specs.Answer.{answerText};
 ghost use Rattle.script_text.specs.Text.{Put};
-ghost use Rattle.script_call.specs.Run.{shownOf, Runs};
+ghost use Rattle.script_shown.specs.Shown.{shownOf};
+ghost use Rattle.script_call.specs.Run.{Runs};
 
 // What a line leaves: the table, and where the next output goes.
 pub struct Ran {
     pub table: Table,
     pub at: usize,
-}
-
-// The body or chunk that an answer shows: of the payload, the upload memory or the response memory.
-fn shown<'a>(answer: Answer, payload: &'a [u8], upload: &'a [u8], response: &'a [u8]) -> &'a [u8]
-    ensures { λ r. ⌜ now r ≡ shownOf answer (now (payload .entry)) (now (upload .entry)) (now (response .entry)) ⌝ }
-{
-    match answer {
-        Answer::Pass => answers::body(answer, payload, upload),
-        Answer::Handed(_, _) => answers::body(answer, payload, upload),
-        Answer::Served(_, _, _, _) => answers::served_chunk(answer, response),
-        Answer::Whole(_, _) => answers::sent_bytes(answer, payload),
-        Answer::First(_, _) => answers::sent_bytes(answer, payload),
-        Answer::Continue(_) => &payload[0..0],
-        Answer::TooLarge(_) => &payload[0..0],
-        Answer::Plain => &payload[0..0],
-        Answer::Refused(_) => &payload[0..0],
-    }
 }
 
 // An answer, with what it shows of the message's payload and of the memories as the call left them.
@@ -55,13 +38,13 @@ fn print<'a>(
     ensures { λ z. ⌜ z .at ≤ at + 2 * 1048576 + 200 ⌝ }
 {
     let answer = outcome.answer;
-    let bytes = shown(answer, payload, upload, response);
+    let bytes = script_shown::shown(answer, payload, upload, response);
     let next = answer_text::put_answer(out, at, n, answer, bytes);
     let table = outcome.table;
     Ran { table, at: next }
 }
 
-fn ask<'a>(
+pub fn ask<'a>(
     r: Request,
     config: Config,
     table: Table,
@@ -104,7 +87,7 @@ fn ask<'a>(
     print(outcome, n, &payload[..p], upload, response, out, at)
 }
 
-fn reply<'a>(
+pub fn reply<'a>(
     r: Response,
     config: Config,
     table: Table,
@@ -140,61 +123,4 @@ fn reply<'a>(
         &payload[..p],
     );
     print(outcome, n, &payload[..p], upload, response, out, at)
-}
-
-// One line: read, called, printed. A line that cannot be read changes nothing.
-pub fn run_line(
-    config: Config,
-    table: Table,
-    upload: &mut [u8],
-    response: &mut [u8],
-    n: u64,
-    line: &[u8],
-    key: &mut [u8],
-    first: &mut [u8],
-    second: &mut [u8],
-    payload: &mut [u8],
-    out: &mut [u8],
-    at: usize,
-) -> Ran
-    requires { ⌜ (length (now line) ≤ 2 * length (now key)) × (length (now line) ≤ 2 * length (now first)) × (length (now line) ≤ 2 * length (now second)) × (length (now line) ≤ 2 * length (now payload)) ⌝ }
-    requires { ⌜ (length (now payload) ≤ 1048576) × (length (now upload) ≤ 1048576) × (length (now response) ≤ 1048576) ⌝ }
-    requires { ⌜ at + 2 * 1048576 + 200 ≤ length (now out) ⌝ }
-    ensures { λ z. ⌜ Runs config (world table (now (upload .entry)) (now (response .entry))) n (lineOf (now (line .entry))) (now (out .entry)) at (world (z .table) (now (upload .exit)) (now (response .exit))) (now (out .exit)) (z .at) ⌝ }
-    ensures { λ z. ⌜ z .at ≤ at + 2 * 1048576 + 200 ⌝ }
-{
-    match script::read_line(line, key, first, second, payload) {
-        Line::Request(r) => ask(
-            r,
-            config,
-            table,
-            upload,
-            response,
-            n,
-            key,
-            first,
-            second,
-            payload,
-            out,
-            at,
-        ),
-        Line::Response(r) => reply(
-            r,
-            config,
-            table,
-            upload,
-            response,
-            n,
-            key,
-            first,
-            second,
-            payload,
-            out,
-            at,
-        ),
-        Line::Unreadable => {
-            let next = answer_text::put_unreadable(out, at, n);
-            Ran { table, at: next }
-        }
-    }
 }

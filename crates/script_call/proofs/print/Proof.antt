@@ -1,4 +1,4 @@
-use Rattle.script_call.proofs.Running.{shown-short}
+use Rattle.script_shown.proofs.Showing.{shown-short}
 use Rattle.script_text.proofs.Puts.{put-as}
 use Rattle.answer_text.specs.Answer.{answerText}
 use Prim.Native.Nat.{ℕ}

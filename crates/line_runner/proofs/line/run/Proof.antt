@@ -1,12 +1,14 @@
 use mathlib.Core.Path.{_≡_, refl, sym, ap, _∙_}
 use native.Mathlib.Omega.{arith}
 use Prim.Native.Nat.{_-_}
-use Rattle.line_runner.proofs.Leaving.{leaves-fronts, world-by, from-start, lent-length}
+use Rattle.fresh_start.proofs.Fronts.{leaves-fronts}
+use Rattle.line_runner.proofs.Leaving.{world-by, from-start, lent-length}
 use Rattle.script_text.proofs.Puts.{put-as}
 use Rattle.script.specs.Line.{lineOf}
 use Rattle.block_handler.specs.Call.{World}
 use Rattle.script_call.specs.Run.{worldAfter, textAfter}
-use Rattle.line_runner.specs.Line.{memoryOf, called, worldIn}
+use Rattle.fresh_start.specs.Leaves.{memoryOf, worldIn}
+use Rattle.line_runner.specs.Line.{called}
 use borrow.Author.Needs.{needs}
 use Rattle.line_runner.proofs.line.run.Statement.{statement}
 use Rattle.line_runner.proofs.line.run.Tie as tie

@@ -2,7 +2,8 @@ use mathlib.Core.Path.{_≡_, refl, sym, ap, _∙_}
 use native.Mathlib.Omega.{arith}
 use Rattle.script_text.proofs.Puts.{put-as}
 use Rattle.replay_control.specs.declared.Control.{Control}
-use Rattle.line_runner.specs.Line.{After, controlled, worldIn}
+use Rattle.fresh_start.specs.Leaves.{After, worldIn}
+use Rattle.line_runner.specs.Line.{controlled}
 use Rattle.line_runner.proofs.Leaving.{leaves-same, long-line, script-line, replay-line}
 use borrow.Author.Needs.{needs}
 use Rattle.line_runner.proofs.line.run_any.Statement.{statement}
