@@ -1,5 +1,5 @@
 -- The laws that loops over keys and rows use: what one turn takes off the front of what is left. Assumes nothing.
-use mathlib.Core.Path.{_≡_, refl, sym, ap, ap₂}
+use mathlib.Core.Path.{_≡_, refl, sym, ap, ap₂, _∙_}
 use mathlib.Core.List.{List, [], _∷_, _++_}
 use mathlib.Core.Bool.{Bool, true, false, _&&_, and-false}
 use Prim.Native.Nat.{ℕ, suc, zero, _+_, _-_, _≤_, _<_}
@@ -45,18 +45,22 @@ module _ {A : Type 0} where
 
 -- ---- keys
 
-module _ (a b : List ℕ) (i : ℕ) where
-  pub same-go : i < length a → i < length b → getD a i 0 ≡ getD b i 0 → same (drop (i + 1) a) (drop (i + 1) b) ≡ same (drop i a) (drop i b)
+module _ (a b : List ℕ) (i : ℕ) (equal r : Bool) where
+  pub same-go : i < length a → i < length b → (equal && same (drop i a) (drop i b)) ≡ r → (equal && eqb (getD a i 0) (getD b i 0) && same (drop (i + 1) a) (drop (i + 1) b)) ≡ r
   unfolding same
-  same-go h k e = rw (drop-step a i 0, drop-step b i 0, eq-eqb _ _ e)
+  same-go h k was = turn equal (eqb (getD a i 0) (getD b i 0)) ∙ rw (drop-step a i 0 h, drop-step b i 0 k) at was
+    where
+      turn : (x y : Bool) → (x && y && same (drop (i + 1) a) (drop (i + 1) b)) ≡ (x && (y && same (drop (i + 1) a) (drop (i + 1) b)))
+      turn true y = refl
+      turn false y = refl
 
-  pub same-no : i < length a → i < length b → (getD a i 0 ≡ getD b i 0 → ⊥) → same (drop i a) (drop i b) ≡ false
+  pub same-end : length a ≤ i → length b ≤ i → (equal && same (drop i a) (drop i b)) ≡ r → equal ≡ r
   unfolding same
-  same-no h k e = rw (drop-step a i 0, drop-step b i 0, ne-eqb _ _ e)
-
-  pub same-end : length a ≤ i → length b ≤ i → same (drop i a) (drop i b) ≡ true
-  unfolding same
-  same-end h k = rw (drop-of-length-le a h, drop-of-length-le b k)
+  same-end h k was = sym (and-true equal) ∙ rw (drop-of-length-le a h, drop-of-length-le b k) at was
+    where
+      and-true : (x : Bool) → (x && true) ≡ x
+      and-true true = refl
+      and-true false = refl
 
 pub same-length : (a b : List ℕ) → (length a ≡ length b → ⊥) → same a b ≡ false
 unfolding same

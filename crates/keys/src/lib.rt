@@ -38,20 +38,20 @@ pub fn key_ok(key: &[u8]) -> bool
     (1 <= key.len()) & (key.len() <= 64)
 }
 
+// Each byte is looked at, since a loop that ends early is not vectorised.
 pub fn same_bytes(a: &[u8], b: &[u8]) -> bool
     ensures { λ r. ⌜ r ≡ same (now (a .entry)) (now (b .entry)) ⌝ }
 {
     if a.len() != b.len() {
         return false;
     }
+    let mut equal = true;
     let mut i = 0;
     while i < a.len() {
-        if a[i] != b[i] {
-            return false;
-        }
+        equal = equal & (a[i] == b[i]);
         i += 1;
     }
-    true
+    equal
 }
 
 // The key is the first `len` of the stored bytes, all of them where `len` is off the limits.

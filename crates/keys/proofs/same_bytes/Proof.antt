@@ -1,18 +1,19 @@
-use mathlib.Core.Path.{_≡_, refl, sym, _∙_}
+use mathlib.Core.Path.{_≡_, refl, sym}
+use mathlib.Core.Bool.{_&&_}
 use Prim.Native.Nat.{_-_, _≤_}
 use native.Mathlib.Omega.{arith}
 use lib.ListN.{length, drop}
 use Rattle.keys.specs.Keys.{same}
-use Rattle.keys.proofs.Turns.{same-go, same-no, same-end, same-length}
+use Rattle.keys.proofs.Turns.{same-go, same-end, same-length}
 use borrow.Author.Needs.{needs}
 use Rattle.keys.proofs.same_bytes.Statement.{statement}
 use Rattle.keys.proofs.same_bytes.Tie as tie
 
 abbrev Inv-loop : tie.InvT-loop
-Inv-loop a b i₀ i = (length a ≡ length b) × ((i ≤ length a) × (same (drop i a) (drop i b) ≡ same a b))
+Inv-loop a b equal₀ i₀ equal i = (length a ≡ length b) × ((i ≤ length a) × ((equal && same (drop i a) (drop i b)) ≡ same a b))
 
 abbrev μ-loop : tie.MeasureT-loop
-μ-loop a b i₀ i = length a - i
+μ-loop a b equal₀ i₀ equal i = length a - i
 
 returns : tie.Need-returns Inv-loop μ-loop
 returns c = sym (same-length (c .before .args .a .now) (c .before .args .b .now) (c .if1 .taken))
@@ -20,16 +21,11 @@ returns c = sym (same-length (c .before .args .a .now) (c .before .args .b .now)
 loop-holds : tie.Need-loop-holds Inv-loop μ-loop
 loop-holds c = (search needs, (search needs, refl))
 
-shared-slice-read-if2 : tie.Need-shared-slice-read-if2 Inv-loop μ-loop
-shared-slice-read-if2 c = search needs
+shared-slice-read-equal : tie.Need-shared-slice-read-equal Inv-loop μ-loop
+shared-slice-read-equal c = search needs
 
-shared-slice-read-if2-2 : tie.Need-shared-slice-read-if2-2 Inv-loop μ-loop
-shared-slice-read-if2-2 c = search needs
-
-returns-2 : tie.Need-returns-2 Inv-loop μ-loop
-returns-2 c =
-    let s = c .before .before .before .before in
-    sym (same-no (s .before .before .args .a .now) (s .before .before .args .b .now) (s .loop .i) (omega arith) (omega arith) (c .if2 .taken)) ∙ s .loop .inv .1 .1
+shared-slice-read-equal-2 : tie.Need-shared-slice-read-equal-2 Inv-loop μ-loop
+shared-slice-read-equal-2 c = search needs
 
 add-i : tie.Need-add-i Inv-loop μ-loop
 add-i c = search needs
@@ -39,14 +35,15 @@ loop-less c = search needs
 
 loop-again : tie.Need-loop-again Inv-loop μ-loop
 loop-again c =
-    let s = c .before .before .before .before in
-    let go = same-go (s .before .before .args .a .now) (s .before .before .args .b .now) (s .loop .i) (omega arith) (omega arith) (c .if2 .left) in
-    (search needs, (search needs, go ∙ s .loop .inv .1 .1))
+    let l = c .before .before .before in
+    let a = l .before .before .args in
+    (search needs, (search needs, same-go (a .a .now) (a .b .now) (l .loop .i) (l .loop .equal) _ (omega arith) (omega arith) (l .loop .inv .1 .1)))
 
-returns-3 : tie.Need-returns-3 Inv-loop μ-loop
-returns-3 c =
-    let a = c .before .before .before .args in
-    sym (same-end (a .a .now) (a .b .now) (c .before .loop .i) (omega arith) (omega arith)) ∙ c .before .loop .inv .1 .1
+returns-2 : tie.Need-returns-2 Inv-loop μ-loop
+returns-2 c =
+    let l = c .before in
+    let a = l .before .before .args in
+    same-end (a .a .now) (a .b .now) (l .loop .i) (l .loop .equal) _ (omega arith) (omega arith) (l .loop .inv .1 .1)
 
 pub same-bytes-spec : {M : Type 1} → statement M
 same-bytes-spec =
@@ -56,10 +53,9 @@ same-bytes-spec =
     μ-loop
     returns
     loop-holds
-    shared-slice-read-if2
-    shared-slice-read-if2-2
-    returns-2
+    shared-slice-read-equal
+    shared-slice-read-equal-2
     add-i
     loop-less
     loop-again
-    returns-3)
+    returns-2)
