@@ -1,4 +1,4 @@
--- Document 01, "Limits" (refusal 1): those of the configuration and of the memories.
+-- Document 01, "Numbers fixed": the limits of the configuration and of the memories (refusal 1).
 use Prim.Native.Nat.{ℕ, _*_}
 use mathlib.Core.Bool.{Bool, _&&_}
 use lib.Dec.{leb, eqb}

@@ -1,4 +1,4 @@
--- How the code judges a call before it takes its step: by what is seen of the table, and by numbers, the same for requests and responses. No public contract cites this.
+-- How the code judges a call before it takes its step: by what is seen of the table, and by numbers, the same for requests and responses. No contract of the handler's two calls, nor of an export, cites this.
 use Prim.Native.Nat.{ℕ}
 use mathlib.Core.Bool.{Bool, cond, not, _&&_}
 use mathlib.Core.List.{List}
