@@ -9,8 +9,8 @@ use native.Mathlib.Omega.{arith}
 use lib.Dec.{ltb}
 use lib.ListN.{length, getD, set, take, drop, length-append, length-take, length-drop, take-append-drop}
 use lib.Seq.{take-take, take-at, drop-at, drop-drop, take-add, set-split, length-take-le, getD-take, getD-drop, drop-append-le, take-append-le}
-use borrow.Author.Tests.{ltb-true, ltb-false}
-use Rattle.pieces.specs.Memory.{patch, part, pieceOf, putPiece}
+use borrow.Author.Tests.{ltb-true, ltb-false, le-leb, lt-leb}
+use Rattle.pieces.specs.Memory.{patch, part, within, pieceOf, putPiece}
 
 -- a memory in three parts, the middle one replaced by one as long
 pub patch-at : (x y z b : List ℕ) (at : ℕ) → length x ≡ at → length y ≡ length b → patch (x ++ (y ++ z)) at b ≡ x ++ (b ++ z)
@@ -88,6 +88,20 @@ drop-part m at n j h f =
     let q : n ≡ j + (n - j) = omega arith in
     let w : length (take j l) ≡ j = simp (length-take, length-drop) (omega arith) in
     ap (drop j) (ap (λ (k : ℕ). take k l) q ∙ take-add j (n - j) l) ∙ drop-at (take j l) (take (n - j) (drop j l)) j w ∙ ap (take (n - j)) (drop-drop j at m)
+
+-- the bytes between two indices, by the cases
+module _ (m : List ℕ) (from to : ℕ) where
+  pub within-backwards : to < from → [] ≡ within m from to
+  unfolding within
+  within-backwards h = rw (lt-leb from to h)
+
+  pub within-past : from ≤ to → length m < to → [] ≡ within m from to
+  unfolding within
+  within-past h k = rw (le-leb from to h, lt-leb to (length m) k)
+
+  pub within-there : from ≤ to → to ≤ length m → take (to - from) (drop from m) ≡ within m from to
+  unfolding within part
+  within-there h k = rw (le-leb from to h, le-leb to (length m) k)
 
 -- ---- what a patch holds, and what it leaves
 

@@ -1,8 +1,9 @@
 // Lent memory: bytes copied, filled and moved in it.
+ghost use mathlib.Core.List.{_∷_, []};
 ghost use mathlib.Core.Path.{_≡_};
-ghost use Prim.Native.Nat.{_+_, _≤_};
+ghost use Prim.Native.Nat.{_+_, _<_, _≤_};
 ghost use lib.ListN.{length, replicate};
-ghost use Rattle.pieces.specs.Memory.{patch, part};
+ghost use Rattle.pieces.specs.Memory.{patch, part, within, Put};
 
 // Copies src into mem from index at on.
 pub fn copy_in(mem: &mut [u8], at: usize, src: &[u8])
@@ -14,6 +15,23 @@ pub fn copy_in(mem: &mut [u8], at: usize, src: &[u8])
         mem[at + i] = src[i];
         i += 1;
     }
+}
+
+// Writes bytes at an index, and answers the next index.
+pub fn put(out: &mut [u8], at: usize, bytes: &[u8]) -> usize
+    requires { ⌜ at + length (now bytes) ≤ length (now out) ⌝ }
+    ensures { λ r. ⌜ Put (now (out .entry)) at (now (bytes .entry)) (now (out .exit)) r ⌝ }
+{
+    copy_in(out, at, bytes);
+    at + bytes.len()
+}
+
+pub fn put_byte(out: &mut [u8], at: usize, byte: u8) -> usize
+    requires { ⌜ at < length (now out) ⌝ }
+    ensures { λ r. ⌜ Put (now (out .entry)) at (byte ∷ []) (now (out .exit)) r ⌝ }
+{
+    out[at] = byte;
+    at + 1
 }
 
 // Writes n zeros into mem from index at on.
@@ -67,4 +85,17 @@ pub fn shift(mem: &mut [u8], from: usize, to: usize, n: usize)
     if from < to {
         move_right(mem, from, to, n);
     }
+}
+
+// The bytes from one index up to another, lent; none where they aren't all there.
+pub fn within(mem: &[u8], from: usize, to: usize) -> &[u8]
+    ensures { λ r. ⌜ now r ≡ within (now (mem .entry)) from to ⌝ }
+{
+    if to < from {
+        return &mem[0..0];
+    }
+    if mem.len() < to {
+        return &mem[0..0];
+    }
+    &mem[from..to]
 }

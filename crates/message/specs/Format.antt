@@ -1,0 +1,159 @@
+-- RFC 7252's message on lists of bytes, apart from any code: the bytes of a message, and what bytes mean.
+use Prim.Native.Nat.{ℕ, zero, suc, _+_, _-_, _*_, _/_, _%_}
+use mathlib.Core.Bool.{Bool, true, false, cond, _&&_}
+use mathlib.Core.List.{List, [], _∷_, _++_}
+use lib.Dec.{leb, ltb, eqb}
+use lib.ListN.{length, take, drop, getD}
+use Rattle.message.specs.declared.Next.{Next}
+use Rattle.message.specs.declared.Next.the-variants.{Option, End, Malformed}
+
+pub record CoapOption : Type 0 where
+  pub number : ℕ
+  pub value : List ℕ
+
+-- Its type is 0 for CON, 1 for NON, 2 for ACK and 3 for RST. Its code is the class times 32, and the detail. No payload is an empty one.
+pub record Message : Type 0 where
+  pub messageType : ℕ
+  pub code : ℕ
+  pub messageId : ℕ
+  pub token : List ℕ
+  pub options : List CoapOption
+  pub payload : List ℕ
+
+-- ---- the bytes of a message
+
+-- "A nibble to 12 is itself; 13 has one more byte, value + 13; 14 has two more bytes, big-endian, value + 269": the nibble of a delta or a
+-- length, and the bytes that extend it.
+unfoldable pub nibbleOf : ℕ → ℕ
+nibbleOf n = cond (ltb n 13) n (cond (ltb n 269) 13 14)
+
+unfoldable pub extension : ℕ → List ℕ
+extension n = cond (ltb n 13) [] (cond (ltb n 269) ((n - 13) ∷ []) (((n - 269) / 256) ∷ ((n - 269) % 256) ∷ []))
+
+-- "A byte with delta (high nibble) and length (low nibble), the extended delta, the extended length."
+unfoldable pub optionHead : ℕ → ℕ → List ℕ
+optionHead delta len = (nibbleOf delta * 16 + nibbleOf len) ∷ (extension delta ++ extension len)
+
+-- ".. the value." The delta counts from the number of the option before, the first from 0.
+abbrev pub optionBytes : ℕ → CoapOption → List ℕ
+optionBytes before o = optionHead (o .number - before) (length (o .value)) ++ o .value
+
+unfoldable pub optionsBytes : ℕ → List CoapOption → List ℕ
+optionsBytes before [] = []
+optionsBytes before (o ∷ options) = optionBytes before o ++ optionsBytes (o .number) options
+
+-- "After a byte 0xFF, the payload. .. No marker: an empty payload."
+unfoldable pub payloadBytes : List ℕ → List ℕ
+payloadBytes [] = []
+payloadBytes (b ∷ payload) = 255 ∷ b ∷ payload
+
+-- "Version (2 bits, always 1), type (2 bits), token length (4 bits)", the code, and the message ID, big-endian.
+unfoldable pub headBytes : Message → List ℕ
+headBytes m = (64 + m .messageType * 16 + length (m .token)) ∷ m .code ∷ (m .messageId / 256) ∷ (m .messageId % 256) ∷ []
+
+-- "Then the token, the options, and .. the payload."
+unfoldable pub bytesOf : Message → List ℕ
+bytesOf m = headBytes m ++ (m .token ++ (optionsBytes 0 (m .options) ++ payloadBytes (m .payload)))
+
+-- Numbers never fall and are at most 65,535; "269 to 65,804" is the last range of a length.
+unfoldable pub optionsOk : ℕ → List CoapOption → Bool
+optionsOk before [] = true
+optionsOk before (o ∷ options) =
+    leb before (o .number) && leb (o .number) 65535 && leb (length (o .value)) 65804 && optionsOk (o .number) options
+
+-- "A code of 0.00 (empty) has token length 0 and nothing after the message ID."
+unfoldable pub emptyOk : Message → Bool
+emptyOk m = cond (eqb (m .code) 0) (eqb (length (m .token) + length (m .options) + length (m .payload)) 0) true
+
+-- The message has an encoding.
+unfoldable pub encodable : Message → Bool
+encodable m =
+    leb (m .messageType) 3 && leb (m .code) 255 && leb (m .messageId) 65535 && leb (length (m .token)) 8 && optionsOk 0 (m .options) && emptyOk m
+
+-- ---- what bytes mean
+
+-- How many bytes extend a nibble, and the number that the nibble and these bytes stand for.
+unfoldable pub extras : ℕ → ℕ
+extras nibble = cond (eqb nibble 13) 1 (cond (eqb nibble 14) 2 0)
+
+unfoldable pub extended : ℕ → List ℕ → ℕ
+extended nibble bytes =
+    cond (eqb nibble 13) (getD bytes 0 0 + 13) (cond (eqb nibble 14) (getD bytes 0 0 * 256 + getD bytes 1 0 + 269) nibble)
+
+-- Where the value of an option starts and ends, counted from the option's first byte, for its two nibbles and the bytes after them.
+abbrev pub valueFrom : ℕ → ℕ → ℕ
+valueFrom delta len = 1 + extras delta + extras len
+
+abbrev pub valueTo : ℕ → ℕ → List ℕ → ℕ
+valueTo delta len rest = valueFrom delta len + extended len (drop (extras delta) rest)
+
+-- "15 is reserved: as the byte 0xFF it is the payload marker, else a format error." So is an option past the end, or a number above 65,535.
+unfoldable pub optionIn : ℕ → ℕ → ℕ → List ℕ → Next
+optionIn before delta len rest =
+    cond (ltb 14 delta) Malformed
+    (cond (ltb 14 len) Malformed
+    (cond (ltb (1 + length rest) (valueTo delta len rest)) Malformed
+    (cond (ltb 65535 (before + extended delta rest)) Malformed
+    (Option (before + extended delta rest) (valueFrom delta len) (valueTo delta len rest)))))
+
+-- "A payload marker with no byte after it is a format error."
+unfoldable pub marked : List ℕ → Next
+marked [] = Malformed
+marked (b ∷ payload) = End
+
+-- What stands where an option may begin: an option, after one of the number `before`, or the end of the options.
+unfoldable pub nextIn : ℕ → List ℕ → Next
+nextIn before [] = End
+nextIn before (b ∷ rest) = cond (eqb b 255) (marked rest) (optionIn before (b / 16) (b % 16) rest)
+
+-- All options, and the bytes that are left where they end: none, or the payload with its marker.
+pub data Options : Type 0 where
+  unreadable : Options
+  options : List CoapOption → List ℕ → Options
+
+abbrev pub withOption : ℕ → List ℕ → Options → Options
+withOption number value unreadable = unreadable
+withOption number value (options list left) = options (record { number = number; value = value } ∷ list) left
+
+abbrev pub onNext : List ℕ → (ℕ → List ℕ → Options) → Next → Options
+onNext bytes more (Option number from to) = withOption number (take (to - from) (drop from bytes)) (more number (drop to bytes))
+onNext bytes more End = options [] bytes
+onNext bytes more Malformed = unreadable
+
+-- "Options are taken one by one until the payload marker or the end": at most as many as the first number says.
+unfoldable pub optionsIn : ℕ → ℕ → List ℕ → Options
+optionsIn zero before bytes = unreadable
+optionsIn (suc most) before bytes = onNext bytes (λ number rest. optionsIn most number rest) (nextIn before bytes)
+
+-- An option takes a byte at least, so there are never more than bytes.
+abbrev pub optionsOf : ℕ → List ℕ → Options
+optionsOf before bytes = optionsIn (suc (length bytes)) before bytes
+
+pub data Meaning : Type 0 where
+  malformed : Meaning
+  means : Message → Meaning
+
+-- Version 1; a token of at most 8 bytes that is there; an empty message with nothing after the message ID.
+unfoldable pub headOk : ℕ → ℕ → List ℕ → Bool
+headOk first code rest =
+    eqb (first / 64) 1 && leb (first % 16) 8 && leb (first % 16) (length rest) && cond (eqb code 0) (eqb (length rest) 0) true
+
+abbrev pub meaningWith : ℕ → ℕ → ℕ → List ℕ → Options → Meaning
+meaningWith first code id rest unreadable = malformed
+meaningWith first code id rest (options list left) =
+    means (record {
+      messageType = first / 16 % 4;
+      code = code;
+      messageId = id;
+      token = take (first % 16) rest;
+      options = list;
+      payload = drop 1 left;
+    })
+
+unfoldable pub meaningOf : List ℕ → Meaning
+meaningOf [] = malformed
+meaningOf (first ∷ []) = malformed
+meaningOf (first ∷ code ∷ []) = malformed
+meaningOf (first ∷ code ∷ high ∷ []) = malformed
+meaningOf (first ∷ code ∷ high ∷ low ∷ rest) =
+    cond (headOk first code rest) (meaningWith first code (high * 256 + low) rest (optionsOf 0 (drop (first % 16) rest))) malformed

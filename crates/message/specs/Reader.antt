@@ -1,0 +1,71 @@
+-- What the reader gives of a message: where its parts stand. Nothing is copied.
+use Prim.Native.Nat.{ℕ, zero, suc, _+_, _-_}
+use mathlib.Core.Bool.{cond}
+use mathlib.Core.List.{List, []}
+use lib.Dec.{eqb}
+use lib.ListN.{length, drop}
+use Rattle.message.specs.Format.{Message, Options, unreadable, options, Meaning, malformed, means, payloadBytes, nextIn, meaningOf}
+use Rattle.message.specs.declared.Part.{Part}
+use Rattle.message.specs.declared.Packet.{Packet}
+use Rattle.message.specs.declared.Next.{Next}
+use Rattle.message.specs.declared.Next.the-variants.{Option, End, Malformed}
+use Rattle.message.specs.declared.Ends.{Ends}
+use Rattle.message.specs.declared.Ends.the-variants as ends-variants
+use Rattle.message.specs.declared.Reading.{Reading}
+use Rattle.message.specs.declared.Reading.the-variants as reading-variants
+use Rattle.message.specs.declared.Found.{Found}
+use Rattle.message.specs.declared.Found.the-variants.{At, Absent}
+
+abbrev pub between : ℕ → ℕ → Part
+between from to = record { from = from; to = to }
+
+-- How many bytes are left where the options end.
+abbrev pub endsOf : Options → Ends
+endsOf unreadable = ends-variants.Malformed
+endsOf (options list left) = ends-variants.Left (length left)
+
+-- The parts of a message of n bytes: the token after the four bytes of the head, then the options, and the payload at the end.
+abbrev pub packetOf : ℕ → Message → Packet
+packetOf n m = record {
+  «message_type» = m .messageType;
+  code = m .code;
+  «message_id» = m .messageId;
+  token = between 4 (4 + length (m .token));
+  options = between (4 + length (m .token)) (n - length (payloadBytes (m .payload)));
+  payload = between (n - length (m .payload)) n;
+}
+
+-- "11, malformed message or an option number above 65,535 .. returns no part of it."
+abbrev pub readingOf : ℕ → Meaning → Reading
+readingOf n malformed = reading-variants.Refused 11
+readingOf n (means m) = reading-variants.Message (packetOf n m)
+
+-- Every message is refused, or shown as what it means.
+abbrev pub readOf : List ℕ → Reading
+readOf bytes = readingOf (length bytes) (meaningOf bytes)
+
+-- What stands at an index of the message, counted from its start.
+abbrev pub counted : ℕ → Next → Next
+counted at (Option number from to) = Option number (at + from) (at + to)
+counted at End = End
+counted at Malformed = Malformed
+
+abbrev pub nextAt : List ℕ → ℕ → ℕ → Next
+nextAt bytes at before = counted at (nextIn before (drop at bytes))
+
+-- The n-th option of a number, the first being 0, among those from an index on, after one of the number `before`: at most as many are passed
+-- as the first number says.
+abbrev pub onFound : ℕ → ℕ → (ℕ → ℕ → ℕ → Found) → Next → Found
+onFound wanted n more (Option number from to) =
+    cond (eqb number wanted) (cond (eqb n 0) (At (between from to)) (more to number (n - 1))) (more to number n)
+onFound wanted n more End = Absent
+onFound wanted n more Malformed = Absent
+
+unfoldable pub foundIn : ℕ → List ℕ → ℕ → ℕ → ℕ → ℕ → Found
+foundIn zero bytes at before wanted n = Absent
+foundIn (suc most) bytes at before wanted n =
+    onFound wanted n (λ to number k. foundIn most bytes to number wanted k) (nextAt bytes at before)
+
+-- An option takes a byte at least.
+abbrev pub foundFrom : List ℕ → ℕ → ℕ → ℕ → ℕ → Found
+foundFrom bytes at before wanted n = foundIn (suc (length bytes - at)) bytes at before wanted n

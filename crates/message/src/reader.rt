@@ -1,0 +1,217 @@
+// A message is judged whole before any part of it is shown.
+use crate::Ends;
+use crate::Found;
+use crate::Next;
+use crate::Packet;
+use crate::Part;
+use crate::Reading;
+ghost use mathlib.Core.Path.{_≡_};
+ghost use Prim.Native.Nat.{_+_, _*_, _≤_, _<_};
+ghost use lib.ListN.{length, getD, drop};
+ghost use Rattle.pieces.specs.Memory.{within};
+ghost use Rattle.message.specs.Format.{extras, extended, optionIn, nextIn, optionsOf};
+ghost use Rattle.message.specs.Reader.{endsOf, readOf, nextAt, foundFrom};
+
+fn wide(x: u8) -> usize
+    ensures { λ r. ⌜ (r ≡ x) × (r < 256) ⌝ }
+{
+    x as usize
+}
+
+// How many bytes extend a nibble.
+fn extra_bytes(nibble: usize) -> usize
+    ensures { λ r. ⌜ (r ≡ extras nibble) × (r ≤ 2) ⌝ }
+{
+    if nibble == 13 {
+        return 1;
+    }
+    if nibble == 14 {
+        return 2;
+    }
+    0
+}
+
+// The delta or the length that a nibble and the bytes at `at` stand for.
+fn extend(bytes: &[u8], at: usize, nibble: usize) -> usize
+    requires { ⌜ nibble < 15 ⌝ }
+    requires { ⌜ at + extras nibble ≤ length (now bytes) ⌝ }
+    ensures { λ r. ⌜ (r ≡ extended nibble (drop at (now (bytes .entry)))) × (r < 65805) ⌝ }
+{
+    if nibble == 13 {
+        return wide(bytes[at]) + 13;
+    }
+    if nibble == 14 {
+        return wide(bytes[at]) * 256 + wide(bytes[at + 1]) + 269;
+    }
+    nibble
+}
+
+// The option whose first byte holds these nibbles.
+fn option_in(bytes: &[u8], before: u16, delta: usize, len: usize) -> Next
+    requires { ⌜ (delta < 16) × (len < 16) × (0 < length (now bytes)) ⌝ }
+    ensures { λ r. ⌜ r ≡ optionIn before delta len (drop 1 (now (bytes .entry))) ⌝ }
+{
+    if delta == 15 {
+        return Next::Malformed;
+    }
+    if len == 15 {
+        return Next::Malformed;
+    }
+    let second = 1 + extra_bytes(delta);
+    let from = second + extra_bytes(len);
+    if bytes.len() < from {
+        return Next::Malformed;
+    }
+    let length = extend(bytes, second, len);
+    if bytes.len() - from < length {
+        return Next::Malformed;
+    }
+    let number = before as usize + extend(bytes, 1, delta);
+    if 65535 < number {
+        return Next::Malformed;
+    }
+    Next::Option {
+        number: number as u16,
+        from,
+        to: from + length,
+    }
+}
+
+fn next_in(bytes: &[u8], before: u16) -> Next
+    ensures { λ r. ⌜ r ≡ nextIn before (now (bytes .entry)) ⌝ }
+{
+    if bytes.len() == 0 {
+        return Next::End;
+    }
+    let first = wide(bytes[0]);
+    if first != 255 {
+        return option_in(bytes, before, first / 16, first % 16);
+    }
+    if bytes.len() == 1 {
+        return Next::Malformed;
+    }
+    Next::End
+}
+
+// Takes the options one by one, until the payload marker or the end: the call on the rest is the last thing done, so it is compiled to a jump.
+fn options_end(rest: &[u8], before: u16) -> Ends
+    ensures { λ r. ⌜ r ≡ endsOf (optionsOf before (now (rest .entry))) ⌝ }
+{
+    match next_in(rest, before) {
+        Next::Option { number, from: _, to } => options_end(&rest[to..], number),
+        Next::End => Ends::Left(rest.len()),
+        Next::Malformed => Ends::Malformed,
+    }
+}
+
+// The payload's length, of the bytes that are left where the options end.
+fn payload_length(left: usize) -> usize {
+    if left == 0 {
+        return 0;
+    }
+    left - 1
+}
+
+// Reads a whole message: Packet::from_bytes in the Rust.
+pub fn from_bytes(message: &[u8]) -> Reading
+    ensures { λ r. ⌜ r ≡ readOf (now (message .entry)) ⌝ }
+{
+    let n = message.len();
+    if n < 4 {
+        return Reading::Refused(11);
+    }
+    let first = wide(message[0]);
+    let token = first % 16;
+    if first / 64 != 1 {
+        return Reading::Refused(11);
+    }
+    if 8 < token {
+        return Reading::Refused(11);
+    }
+    if n - 4 < token {
+        return Reading::Refused(11);
+    }
+    let code = message[1];
+    if code == 0 {
+        if 4 < n {
+            return Reading::Refused(11);
+        }
+    }
+    let options = 4 + token;
+    let Ends::Left(left) = options_end(&message[options..], 0) else {
+        return Reading::Refused(11);
+    };
+    Reading::Message(Packet {
+        message_type: (first / 16 % 4) as u8,
+        code,
+        message_id: message[2] as u16 * 256 + message[3] as u16,
+        token: Part {
+            from: 4,
+            to: options,
+        },
+        options: Part {
+            from: options,
+            to: n - left,
+        },
+        payload: Part {
+            from: n - payload_length(left),
+            to: n,
+        },
+    })
+}
+
+// The length of the message encoded with its payload taken out: the marker goes too.
+pub fn bare(packet: Packet) -> usize
+    ensures { λ r. ⌜ r ≡ packet .options .to ⌝ }
+{
+    packet.options.to
+}
+
+// The option that begins at an index, after one of the number `before`. A message's first begins where its options do, after 0; the
+// next one where the value before it ends.
+pub fn next_option(message: &[u8], at: usize, before: u16) -> Next
+    ensures { λ r. ⌜ r ≡ nextAt (now (message .entry)) at before ⌝ }
+{
+    if message.len() < at {
+        return Next::End;
+    }
+    match next_in(&message[at..], before) {
+        Next::Option { number, from, to } => Next::Option {
+            number,
+            from: at + from,
+            to: at + to,
+        },
+        Next::End => Next::End,
+        Next::Malformed => Next::Malformed,
+    }
+}
+
+// Goes on past options of other numbers, and past the first n of this one.
+fn find_from(message: &[u8], at: usize, before: u16, wanted: u16, n: usize) -> Found
+    ensures { λ r. ⌜ r ≡ foundFrom (now (message .entry)) at before wanted n ⌝ }
+{
+    let Next::Option { number, from, to } = next_option(message, at, before) else {
+        return Found::Absent;
+    };
+    if number != wanted {
+        return find_from(message, to, number, wanted, n);
+    }
+    if n > 0 {
+        return find_from(message, to, number, wanted, n - 1);
+    }
+    Found::At(Part { from, to })
+}
+
+// The n-th option of a number, the first being 0, of a message that was read.
+pub fn nth_option(message: &[u8], packet: Packet, wanted: u16, n: usize) -> Found
+    ensures { λ r. ⌜ r ≡ foundFrom (now (message .entry)) (packet .options .from) 0 wanted n ⌝ }
+{
+    find_from(message, packet.options.from, 0, wanted, n)
+}
+
+// A part of the message, lent and never copied: empty where it isn't there.
+pub fn part_of(message: &[u8], part: Part) -> &[u8]
+    ensures { λ r. ⌜ now r ≡ within (now (message .entry)) (part .from) (part .to) ⌝ }
+{
+    pieces::within(message, part.from, part.to)
+}

@@ -1,0 +1,118 @@
+// Whether a message is taken, before a byte of it is written.
+use crate::Room;
+ghost use mathlib.Core.Path.{_≡_};
+ghost use mathlib.Core.Bool.{cond};
+ghost use Prim.Native.Nat.{_+_, _^_, _<_, _≤_};
+ghost use lib.Dec.{ltb, leb};
+ghost use lib.ListN.{length};
+ghost use Rattle.message.specs.Format.{extension, payloadBytes};
+ghost use Rattle.message_writer.specs.Writer.{roomAfter, takes, Given};
+
+pub fn wide(x: u32) -> usize
+    ensures { λ r. ⌜ (r ≡ x) × (r < 2 ^ 32) ⌝ }
+{
+    x as usize
+}
+
+// How many bytes extend the nibble of a delta or a length.
+fn extension_length(n: usize) -> usize
+    ensures { λ r. ⌜ (r ≡ length (extension n)) × (r ≤ 2) ⌝ }
+{
+    if n < 13 {
+        return 0;
+    }
+    if n < 269 {
+        return 1;
+    }
+    2
+}
+
+// What one option leaves of the room, of a number after `before` and with so many bytes of values left.
+fn option<'a>(room: usize, before: usize, number: usize, len: usize, values: usize) -> Room
+{
+    if number < before {
+        return Room::Small;
+    }
+    if 65535 < number {
+        return Room::Small;
+    }
+    if 65804 < len {
+        return Room::Small;
+    }
+    if values < len {
+        return Room::Small;
+    }
+    let head = 1 + extension_length(number - before) + extension_length(len);
+    if room < head + len {
+        return Room::Small;
+    }
+    Room::Left(room - (head + len))
+}
+
+fn options<'a>(room: usize, numbers: &'a [u32], lengths: &'a [u32], values: &'a [u8]) -> Room
+    ensures { λ r. ⌜ r ≡ roomAfter room (now (numbers .entry)) (now (lengths .entry)) (now (values .entry)) ⌝ }
+{
+    if numbers.len() != lengths.len() {
+        return Room::Small;
+    }
+    let mut left = room;
+    let mut before = 0;
+    let mut at = 0;
+    let mut i = 0;
+    while i < numbers.len() {
+        let number = wide(numbers[i]);
+        let len = wide(lengths[i]);
+        let Room::Left(after) = option(left, before, number, len, values.len() - at) else {
+            return Room::Small;
+        };
+        left = after;
+        before = number;
+        at += len;
+        i += 1;
+    }
+    if at < values.len() {
+        return Room::Small;
+    }
+    Room::Left(left)
+}
+
+// Whether the payload and its marker fit.
+fn payload_fits(room: usize, payload: &[u8]) -> bool
+    ensures { λ r. ⌜ r ≡ leb (length (payloadBytes (now (payload .entry)))) room ⌝ }
+{
+    if payload.len() == 0 {
+        return true;
+    }
+    payload.len() < room
+}
+
+pub fn takes<'a>(
+    room: usize,
+    message_type: u8,
+    code: u8,
+    token: &'a [u8],
+    numbers: &'a [u32],
+    lengths: &'a [u32],
+    values: &'a [u8],
+    payload: &'a [u8],
+) -> bool
+{
+    if 3 < message_type {
+        return false;
+    }
+    if 8 < token.len() {
+        return false;
+    }
+    if code == 0 {
+        if 0 < token.len() + numbers.len() + payload.len() {
+            return false;
+        }
+    }
+    if room < 4 + token.len() {
+        return false;
+    }
+    let Room::Left(left) = options(room - (4 + token.len()), numbers, lengths, values) else {
+        return false;
+    };
+    payload_fits(left, payload)
+}
