@@ -133,10 +133,9 @@ pub data Meaning : Type 0 where
   malformed : Meaning
   means : Message → Meaning
 
--- Version 1; a token of at most 8 bytes that is there; an empty message with nothing after the message ID.
-unfoldable pub headOk : ℕ → ℕ → List ℕ → Bool
-headOk first code rest =
-    eqb (first / 64) 1 && leb (first % 16) 8 && leb (first % 16) (length rest) && cond (eqb code 0) (eqb (length rest) 0) true
+-- The first byte and the code, before n more bytes: version 1; a token of at most 8 bytes that is there; nothing after an empty message's ID.
+unfoldable pub headOk : ℕ → ℕ → ℕ → Bool
+headOk first code n = eqb (first / 64) 1 && leb (first % 16) 8 && leb (first % 16) n && cond (eqb code 0) (eqb n 0) true
 
 abbrev pub meaningWith : ℕ → ℕ → ℕ → List ℕ → Options → Meaning
 meaningWith first code id rest unreadable = malformed
@@ -156,4 +155,4 @@ meaningOf (first ∷ []) = malformed
 meaningOf (first ∷ code ∷ []) = malformed
 meaningOf (first ∷ code ∷ high ∷ []) = malformed
 meaningOf (first ∷ code ∷ high ∷ low ∷ rest) =
-    cond (headOk first code rest) (meaningWith first code (high * 256 + low) rest (optionsOf 0 (drop (first % 16) rest))) malformed
+    cond (headOk first code (length rest)) (meaningWith first code (high * 256 + low) rest (optionsOf 0 (drop (first % 16) rest))) malformed

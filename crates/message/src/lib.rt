@@ -34,11 +34,7 @@ pub enum Reading {
 
 // What stands where an option may begin: an option and where its value stands, or the end of the options.
 pub enum Next {
-    Option {
-        number: u16,
-        from: usize,
-        to: usize,
-    },
+    Option { number: u16, from: usize, to: usize },
     End,
     Malformed,
 }

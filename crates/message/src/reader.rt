@@ -6,10 +6,10 @@ use crate::Packet;
 use crate::Part;
 use crate::Reading;
 ghost use mathlib.Core.Path.{_≡_};
-ghost use Prim.Native.Nat.{_+_, _*_, _≤_, _<_};
-ghost use lib.ListN.{length, getD, drop};
+ghost use Prim.Native.Nat.{_+_, _-_, _*_, _≤_, _<_};
+ghost use lib.ListN.{length, drop};
 ghost use Rattle.pieces.specs.Memory.{within};
-ghost use Rattle.message.specs.Format.{extras, extended, optionIn, nextIn, optionsOf};
+ghost use Rattle.message.specs.Format.{extras, extended, optionIn, nextIn, optionsOf, headOk};
 ghost use Rattle.message.specs.Reader.{endsOf, readOf, nextAt, foundFrom};
 
 fn wide(x: u8) -> usize
@@ -98,18 +98,49 @@ fn options_end(rest: &[u8], before: u16) -> Ends
     ensures { λ r. ⌜ r ≡ endsOf (optionsOf before (now (rest .entry))) ⌝ }
 {
     match next_in(rest, before) {
-        Next::Option { number, from: _, to } => options_end(&rest[to..], number),
+        Next::Option {
+            number,
+            from: _,
+            to,
+        } => options_end(&rest[to..], number),
         Next::End => Ends::Left(rest.len()),
         Next::Malformed => Ends::Malformed,
     }
 }
 
+// Judges the first byte and the code, before n more bytes.
+fn head_ok(first: usize, code: u8, n: usize) -> bool
+    ensures { λ r. ⌜ r ≡ headOk first code n ⌝ }
+{
+    if first / 64 != 1 {
+        return false;
+    }
+    if 8 < first % 16 {
+        return false;
+    }
+    if n < first % 16 {
+        return false;
+    }
+    if code != 0 {
+        return true;
+    }
+    n == 0
+}
+
 // The payload's length, of the bytes that are left where the options end.
-fn payload_length(left: usize) -> usize {
+fn payload_length(left: usize) -> usize
+    ensures { λ r. ⌜ r ≡ left - 1 ⌝ }
+{
     if left == 0 {
         return 0;
     }
     left - 1
+}
+
+fn big_endian(high: u8, low: u8) -> u16
+    ensures { λ r. ⌜ r ≡ high * 256 + low ⌝ }
+{
+    high as u16 * 256 + low as u16
 }
 
 // Reads a whole message: Packet::from_bytes in the Rust.
@@ -121,30 +152,18 @@ pub fn from_bytes(message: &[u8]) -> Reading
         return Reading::Refused(11);
     }
     let first = wide(message[0]);
-    let token = first % 16;
-    if first / 64 != 1 {
-        return Reading::Refused(11);
-    }
-    if 8 < token {
-        return Reading::Refused(11);
-    }
-    if n - 4 < token {
-        return Reading::Refused(11);
-    }
     let code = message[1];
-    if code == 0 {
-        if 4 < n {
-            return Reading::Refused(11);
-        }
+    if !head_ok(first, code, n - 4) {
+        return Reading::Refused(11);
     }
-    let options = 4 + token;
+    let options = 4 + first % 16;
     let Ends::Left(left) = options_end(&message[options..], 0) else {
         return Reading::Refused(11);
     };
     Reading::Message(Packet {
         message_type: (first / 16 % 4) as u8,
         code,
-        message_id: message[2] as u16 * 256 + message[3] as u16,
+        message_id: big_endian(message[2], message[3]),
         token: Part {
             from: 4,
             to: options,
@@ -190,16 +209,19 @@ pub fn next_option(message: &[u8], at: usize, before: u16) -> Next
 fn find_from(message: &[u8], at: usize, before: u16, wanted: u16, n: usize) -> Found
     ensures { λ r. ⌜ r ≡ foundFrom (now (message .entry)) at before wanted n ⌝ }
 {
-    let Next::Option { number, from, to } = next_option(message, at, before) else {
-        return Found::Absent;
-    };
-    if number != wanted {
-        return find_from(message, to, number, wanted, n);
+    match next_option(message, at, before) {
+        Next::Option { number, from, to } => {
+            if number != wanted {
+                return find_from(message, to, number, wanted, n);
+            }
+            if n > 0 {
+                return find_from(message, to, number, wanted, n - 1);
+            }
+            Found::At(Part { from, to })
+        }
+        Next::End => Found::Absent,
+        Next::Malformed => Found::Absent,
     }
-    if n > 0 {
-        return find_from(message, to, number, wanted, n - 1);
-    }
-    Found::At(Part { from, to })
 }
 
 // The n-th option of a number, the first being 0, of a message that was read.

@@ -28,8 +28,7 @@ fn extension_length(n: usize) -> usize
 }
 
 // What one option leaves of the room, of a number after `before` and with so many bytes of values left.
-fn option<'a>(room: usize, before: usize, number: usize, len: usize, values: usize) -> Room
-{
+fn option<'a>(room: usize, before: usize, number: usize, len: usize, values: usize) -> Room {
     if number < before {
         return Room::Small;
     }
@@ -95,8 +94,7 @@ pub fn takes<'a>(
     lengths: &'a [u32],
     values: &'a [u8],
     payload: &'a [u8],
-) -> bool
-{
+) -> bool {
     if 3 < message_type {
         return false;
     }

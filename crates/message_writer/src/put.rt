@@ -59,8 +59,7 @@ pub fn options<'a>(
     numbers: &'a [u32],
     lengths: &'a [u32],
     values: &'a [u8],
-) -> usize
-{
+) -> usize {
     let mut to = start;
     let mut before = 0;
     let mut at = 0;
@@ -76,8 +75,7 @@ pub fn options<'a>(
     to
 }
 
-pub fn head(out: &mut [u8], message_type: u8, code: u8, message_id: u16, token: &[u8]) -> usize
-{
+pub fn head(out: &mut [u8], message_type: u8, code: u8, message_id: u16, token: &[u8]) -> usize {
     let at = pieces::put_byte(out, 0, 64 + message_type * 16 + token.len() as u8);
     let at = pieces::put_byte(out, at, code);
     let at = pieces::put_byte(out, at, (message_id / 256) as u8);

@@ -1,0 +1,154 @@
+-- What the reader answers, by the tests it makes: the head, the options, the parts. Assumes nothing.
+use mathlib.Core.Path.{_≡_, refl, sym, ap, _∙_}
+use mathlib.Core.Bool.{Bool, true, false, cond, _&&_}
+use mathlib.Core.List.{List, [], _∷_}
+use Prim.Native.Nat.{ℕ, suc, _+_, _-_, _*_, _/_, _%_, _≤_, _<_}
+use native.Mathlib.Omega.{arith}
+use lib.Dec.{leb, eqb}
+use lib.ListN.{length, take, drop, getD, length-drop, length-take}
+use lib.Seq.{drop-drop, length-take-le}
+use borrow.Author.Tests.{le-leb, lt-leb, eq-eqb, ne-eqb, leb-true, eqb-true}
+use Rattle.message.specs.Format.{CoapOption, Options, unreadable, options, optionsOf, payloadBytes, malformed, headOk, meaningWith, meaningOf}
+use Rattle.message.specs.Reader.{between, endsOf, readingOf, readOf}
+use Rattle.message.specs.declared.Ends.{Ends}
+use Rattle.message.specs.declared.Ends.the-variants as ends-variants
+use Rattle.message.specs.declared.Reading.{Reading}
+use Rattle.message.specs.declared.Reading.the-variants.{Message, Refused}
+use Rattle.message.proofs.Laws.{rest-of, LeftOf, options-left}
+
+-- ---- the first byte and the code
+
+module _ (first code n : ℕ) where
+  pub head-version : (first / 64 ≡ 1 → ⊥) → false ≡ headOk first code n
+  unfolding headOk
+  head-version v = rw (ne-eqb (first / 64) 1 v)
+
+  module _ (v : first / 64 ≡ 1) where
+    pub head-token : 8 < first % 16 → false ≡ headOk first code n
+    unfolding headOk
+    head-token t = rw (eq-eqb (first / 64) 1 v, lt-leb (first % 16) 8 t)
+
+    module _ (t : first % 16 ≤ 8) where
+      pub head-cut : n < first % 16 → false ≡ headOk first code n
+      unfolding headOk
+      head-cut p = rw (eq-eqb (first / 64) 1 v, le-leb (first % 16) 8 t, lt-leb (first % 16) n p)
+
+      pub head-full : first % 16 ≤ n → (code ≡ 0 → ⊥) → true ≡ headOk first code n
+      unfolding headOk
+      head-full p z = rw (eq-eqb (first / 64) 1 v, le-leb (first % 16) 8 t, le-leb (first % 16) n p, ne-eqb code 0 z)
+
+      pub head-empty : first % 16 ≤ n → code ≡ 0 → eqb n 0 ≡ headOk first code n
+      unfolding headOk
+      head-empty p z = rw (eq-eqb (first / 64) 1 v, le-leb (first % 16) 8 t, le-leb (first % 16) n p, eq-eqb code 0 z)
+
+pub both : (a b : Bool) → (a && b) ≡ true → (a ≡ true) × (b ≡ true)
+both true true e = (refl, refl)
+both true false e = (refl, e)
+both false b e = (e, absurd (let z : _≡_ {A = ℕ} 0 1 = cc in omega arith))
+
+pub record Headed (first code n : ℕ) : Type 0 where
+  pub version : first / 64 ≡ 1
+  pub token : first % 16 ≤ 8
+  pub there : first % 16 ≤ n
+  pub empty : code ≡ 0 → n ≡ 0
+
+pub head-tells : (first code n : ℕ) → headOk first code n ≡ true → Headed first code n
+unfolding headOk
+head-tells first code n e =
+    let last = both (eqb (first / 64) 1 && leb (first % 16) 8 && leb (first % 16) n) (cond (eqb code 0) (eqb n 0) true) e in
+    let third = both (eqb (first / 64) 1 && leb (first % 16) 8) (leb (first % 16) n) (last .0) in
+    let two = both (eqb (first / 64) 1) (leb (first % 16) 8) (third .0) in
+    record {
+      version = eqb-true (first / 64) 1 (two .0);
+      token = leb-true (first % 16) 8 (two .1);
+      there = leb-true (first % 16) n (third .1);
+      empty = λ z. eqb-true n 0 (rw (eq-eqb code 0 z) at (last .1));
+    }
+
+-- ---- the message
+
+pub read-short : (bytes : List ℕ) → length bytes < 4 → Refused 11 ≡ readOf bytes
+unfolding meaningOf
+read-short [] h = refl
+read-short (a ∷ []) h = refl
+read-short (a ∷ b ∷ []) h = refl
+read-short (a ∷ b ∷ x ∷ []) h = refl
+read-short (a ∷ b ∷ x ∷ y ∷ rest) h = absurd (omega arith)
+
+pub meaning-long : (bytes : List ℕ) → 4 ≤ length bytes
+    → meaningOf bytes ≡ cond (headOk (getD bytes 0 0) (getD bytes 1 0) (length bytes - 4)) (meaningWith (getD bytes 0 0) (getD bytes 1 0) (getD bytes 2 0 * 256 + getD bytes 3 0) (drop 4 bytes) (optionsOf 0 (drop (getD bytes 0 0 % 16) (drop 4 bytes)))) malformed
+unfolding meaningOf
+meaning-long [] h = absurd (omega arith)
+meaning-long (a ∷ []) h = absurd (omega arith)
+meaning-long (a ∷ b ∷ []) h = absurd (omega arith)
+meaning-long (a ∷ b ∷ x ∷ []) h = absurd (omega arith)
+meaning-long (a ∷ b ∷ x ∷ y ∷ rest) h =
+    ap (λ (n : ℕ). cond (headOk a b n) (meaningWith a b (x * 256 + y) rest (optionsOf 0 (drop (a % 16) rest))) malformed) (omega arith)
+
+module _ (bytes : List ℕ) (long : 4 ≤ length bytes) (first code : ℕ) (is-first : first ≡ getD bytes 0 0) (is-code : code ≡ getD bytes 1 0) where
+  pub read-head : headOk first code (length bytes - 4) ≡ false → Refused 11 ≡ readOf bytes
+  read-head e = rw (meaning-long bytes long, ← is-first, ← is-code, e)
+
+  module _ (ok : headOk first code (length bytes - 4) ≡ true) where
+    pub meaning-headed : meaningOf bytes ≡ meaningWith first code (getD bytes 2 0 * 256 + getD bytes 3 0) (drop 4 bytes) (optionsOf 0 (drop (first % 16) (drop 4 bytes)))
+    meaning-headed = meaning-long bytes long ∙ rw (← is-first, ← is-code, ok)
+
+    -- the token is there, so the options begin in the message
+    pub token-there : 4 + first % 16 ≤ length bytes
+    token-there = let h = head-tells first code (length bytes - 4) ok in omega (arith, h .there)
+
+    -- what the code lends to the reader of options is the rest after the token
+    lent-options : optionsOf 0 (take (length bytes - (4 + first % 16)) (drop (4 + first % 16) bytes)) ≡ optionsOf 0 (drop (first % 16) (drop 4 bytes))
+    lent-options = ap (optionsOf 0) (rest-of bytes (4 + first % 16) ∙ sym (drop-drop (first % 16) 4 bytes))
+
+    module _ (ends : Ends) (is-ends : ends ≡ endsOf (optionsOf 0 (take (length bytes - (4 + first % 16)) (drop (4 + first % 16) bytes)))) where
+      is-ends′ : ends ≡ endsOf (optionsOf 0 (drop (first % 16) (drop 4 bytes)))
+      is-ends′ = is-ends ∙ ap endsOf lent-options
+
+      pub read-bad : ends ≡ ends-variants.Malformed → Refused 11 ≡ readOf bytes
+      read-bad e = go (optionsOf 0 (drop (first % 16) (drop 4 bytes))) refl
+        where
+          go : (o : Options) → optionsOf 0 (drop (first % 16) (drop 4 bytes)) ≡ o → Refused 11 ≡ readOf bytes
+          go unreadable p = sym (ap (readingOf (length bytes)) (meaning-headed ∙ ap (meaningWith first code (getD bytes 2 0 * 256 + getD bytes 3 0) (drop 4 bytes)) p))
+          go (options list left) p = absurd (let z : _≡_ {A = ℕ} 0 1 = cc (sym e ∙ is-ends′ ∙ ap endsOf p) in omega arith)
+
+      module _ (left : ℕ) (is-left : ends ≡ ends-variants.Left left) where
+        -- the options that there are, and what is left after them
+        taken-options : (list : List CoapOption) × (rest : List ℕ) × (optionsOf 0 (drop (first % 16) (drop 4 bytes)) ≡ options list rest) × (left ≡ length rest)
+        taken-options = go (optionsOf 0 (drop (first % 16) (drop 4 bytes))) refl
+          where
+            go : (o : Options) → optionsOf 0 (drop (first % 16) (drop 4 bytes)) ≡ o → (list : List CoapOption) × (rest : List ℕ) × (optionsOf 0 (drop (first % 16) (drop 4 bytes)) ≡ options list rest) × (left ≡ length rest)
+            go unreadable p = absurd (let z : _≡_ {A = ℕ} 0 1 = cc (sym is-left ∙ is-ends′ ∙ ap endsOf p) in omega arith)
+            go (options list rest) p = (list, rest, p, cc (sym is-left ∙ is-ends′ ∙ ap endsOf p))
+
+        after : LeftOf (drop (first % 16) (drop 4 bytes)) (taken-options .1)
+        after = options-left (suc (length (drop (first % 16) (drop 4 bytes)))) 0 (drop (first % 16) (drop 4 bytes)) (taken-options .0) (taken-options .1) (taken-options .2)
+
+        pub left-within : left ≤ length bytes
+        left-within = omega (arith, taken-options .3, after .short, length-drop (first % 16) (drop 4 bytes), length-drop 4 bytes)
+
+        pub read-taken : (messageType id payload : ℕ) → messageType ≡ first / 16 % 4 → id ≡ getD bytes 2 0 * 256 + getD bytes 3 0 → payload ≡ left - 1
+            → Message (record {
+              «message_type» = messageType;
+              code = code;
+              «message_id» = id;
+              token = between 4 (4 + first % 16);
+              options = between (4 + first % 16) (length bytes - left);
+              payload = between (length bytes - payload) (length bytes);
+            })
+            ≡ readOf bytes
+        read-taken messageType id payload is-type is-id is-payload =
+            let h = head-tells first code (length bytes - 4) ok in
+            let token : first % 16 ≡ length (take (first % 16) (drop 4 bytes)) = sym (length-take-le (first % 16) (drop 4 bytes) (omega (arith, h .there, length-drop 4 bytes))) in
+            let with-marker : left ≡ length (payloadBytes (drop 1 (taken-options .1))) = taken-options .3 ∙ sym (ap length (after .marker)) in
+            let bare : payload ≡ length (drop 1 (taken-options .1)) = is-payload ∙ omega (arith, taken-options .3, length-drop 1 (taken-options .1)) in
+            (λ i.
+            Message (record {
+              «message_type» = is-type i;
+              code = code;
+              «message_id» = is-id i;
+              token = between 4 (4 + token i);
+              options = between (4 + token i) (length bytes - with-marker i);
+              payload = between (length bytes - bare i) (length bytes);
+            }))
+            ∙ sym (ap (readingOf (length bytes)) (meaning-headed ∙ ap (meaningWith first code (getD bytes 2 0 * 256 + getD bytes 3 0) (drop 4 bytes)) (taken-options .2)))
