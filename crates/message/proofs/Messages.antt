@@ -9,6 +9,7 @@ use lib.ListN.{length, take, drop, getD, length-drop, length-take}
 use lib.Seq.{drop-drop, length-take-le}
 use borrow.Author.Tests.{le-leb, lt-leb, eq-eqb, ne-eqb, leb-true, eqb-true}
 use Rattle.message.specs.Format.{CoapOption, Options, unreadable, options, optionsOf, payloadBytes, malformed, headOk, meaningWith, meaningOf}
+use Rattle.message.specs.Format as format
 use Rattle.message.specs.Reader.{between, endsOf, readingOf, readOf}
 use Rattle.message.specs.declared.Ends.{Ends}
 use Rattle.message.specs.declared.Ends.the-variants as ends-variants
@@ -152,3 +153,46 @@ module _ (bytes : List ℕ) (long : 4 ≤ length bytes) (first code : ℕ) (is-f
               payload = between (length bytes - bare i) (length bytes);
             }))
             ∙ sym (ap (readingOf (length bytes)) (meaning-headed ∙ ap (meaningWith first code (getD bytes 2 0 * 256 + getD bytes 3 0) (drop 4 bytes)) (taken-options .2)))
+
+-- ---- what a message that is taken tells
+
+pub record Meant (bytes : List ℕ) (m : format.Message) : Type 0 where
+  pub long : 4 ≤ length bytes
+  pub ok : headOk (getD bytes 0 0) (getD bytes 1 0) (length bytes - 4) ≡ true
+  pub type-is : m .messageType ≡ getD bytes 0 0 / 16 % 4
+  pub code-is : m .code ≡ getD bytes 1 0
+  pub id-is : m .messageId ≡ getD bytes 2 0 * 256 + getD bytes 3 0
+  pub token-is : m .token ≡ take (getD bytes 0 0 % 16) (drop 4 bytes)
+  pub left : List ℕ
+  pub listed : optionsOf 0 (drop (getD bytes 0 0 % 16) (drop 4 bytes)) ≡ options (m .options) left
+  pub payload-is : m .payload ≡ drop 1 left
+
+no-meaning : {m : format.Message} → malformed ≡ format.means m → ⊥
+no-meaning e = let z : _≡_ {A = ℕ} 0 1 = cc in omega arith
+
+pub meaning-tells : (bytes : List ℕ) (m : format.Message) → meaningOf bytes ≡ format.means m → Meant bytes m
+unfolding meaningOf
+meaning-tells [] m e = absurd (no-meaning e)
+meaning-tells (a ∷ []) m e = absurd (no-meaning e)
+meaning-tells (a ∷ b ∷ []) m e = absurd (no-meaning e)
+meaning-tells (a ∷ b ∷ x ∷ []) m e = absurd (no-meaning e)
+meaning-tells (a ∷ b ∷ x ∷ y ∷ rest) m e = go (headOk a b (length rest)) refl (optionsOf 0 (drop (a % 16) rest)) refl e
+  where
+    go : (h : Bool) → headOk a b (length rest) ≡ h → (o : Options) → optionsOf 0 (drop (a % 16) rest) ≡ o
+        → cond h (meaningWith a b (x * 256 + y) rest o) malformed ≡ format.means m → Meant (a ∷ b ∷ x ∷ y ∷ rest) m
+    go false p o q e = absurd (no-meaning e)
+    go true p unreadable q e = absurd (no-meaning e)
+    go true p (options list left) q e =
+        let is : m ≡ record { messageType = a / 16 % 4; code = b; messageId = x * 256 + y; token = take (a % 16) rest; options = list; payload = drop 1 left } = cc in
+        let n : length rest ≡ length (a ∷ b ∷ x ∷ y ∷ rest) - 4 = omega arith in
+        record {
+          long = omega arith;
+          ok = rw (← n) p;
+          type-is = ap (λ (m : format.Message). m .messageType) is;
+          code-is = ap (λ (m : format.Message). m .code) is;
+          id-is = ap (λ (m : format.Message). m .messageId) is;
+          token-is = ap (λ (m : format.Message). m .token) is;
+          left = left;
+          listed = q ∙ ap (λ (m : format.Message). options (m .options) left) (sym is);
+          payload-is = ap (λ (m : format.Message). m .payload) is;
+        }

@@ -1,5 +1,5 @@
 -- RFC 7252's message on lists of bytes, apart from any code: the bytes of a message, and what bytes mean.
-use Prim.Native.Nat.{ℕ, zero, suc, _+_, _-_, _*_, _/_, _%_}
+use Prim.Native.Nat.{ℕ, zero, suc, _+_, _-_, _*_, _/_, _%_, _<_}
 use mathlib.Core.Bool.{Bool, true, false, cond, _&&_}
 use mathlib.Core.List.{List, [], _∷_, _++_}
 use lib.Dec.{leb, ltb, eqb}
@@ -19,6 +19,9 @@ pub record Message : Type 0 where
   pub token : List ℕ
   pub options : List CoapOption
   pub payload : List ℕ
+
+abbrev pub Bytes : List ℕ → Type 0
+Bytes bytes = (i : ℕ) → getD bytes i 0 < 256
 
 -- ---- the bytes of a message
 
