@@ -1,3 +1,4 @@
 pub mod Laws
 pub mod Messages
 pub mod ReadBack
+pub mod WriteBack
