@@ -2,3 +2,4 @@ pub mod Laws
 pub mod Messages
 pub mod ReadBack
 pub mod WriteBack
+pub mod Shown

@@ -1,10 +1,11 @@
 -- What the reader gives of a message: where its parts stand. Nothing is copied.
 use Prim.Native.Nat.{ℕ, zero, suc, _+_, _-_}
 use mathlib.Core.Bool.{cond}
-use mathlib.Core.List.{List, []}
+use mathlib.Core.List.{List, [], _∷_}
 use lib.Dec.{eqb}
 use lib.ListN.{length, drop}
-use Rattle.message.specs.Format.{Message, Options, unreadable, options, Meaning, malformed, means, payloadBytes, nextIn, meaningOf}
+use Rattle.pieces.specs.Memory.{within}
+use Rattle.message.specs.Format.{CoapOption, Message, Options, unreadable, options, Meaning, malformed, means, payloadBytes, nextIn, meaningOf}
 use Rattle.message.specs.declared.Part.{Part}
 use Rattle.message.specs.declared.Packet.{Packet}
 use Rattle.message.specs.declared.Next.{Next}
@@ -44,6 +45,11 @@ readingOf n (means m) = reading-variants.Message (packetOf n m)
 abbrev pub readOf : List ℕ → Reading
 readOf bytes = readingOf (length bytes) (meaningOf bytes)
 
+-- The message with its payload taken out.
+abbrev pub withoutPayload : Message → Message
+withoutPayload m =
+    record { messageType = m .messageType; code = m .code; messageId = m .messageId; token = m .token; options = m .options; payload = [] }
+
 -- What stands at an index of the message, counted from its start.
 abbrev pub counted : ℕ → Next → Next
 counted at (Option number from to) = Option number (at + from) (at + to)
@@ -69,3 +75,17 @@ foundIn (suc most) bytes at before wanted n =
 -- An option takes a byte at least.
 abbrev pub foundFrom : List ℕ → ℕ → ℕ → ℕ → ℕ → Found
 foundFrom bytes at before wanted n = foundIn (suc (length bytes - at)) bytes at before wanted n
+
+-- The same among the options that a message means: the value, if there is one.
+pub data Value : Type 0 where
+  none : Value
+  value : List ℕ → Value
+
+unfoldable pub nthOf : ℕ → ℕ → List CoapOption → Value
+nthOf wanted n [] = none
+nthOf wanted n (o ∷ list) =
+    cond (eqb (o .number) wanted) (cond (eqb n 0) (value (o .value)) (nthOf wanted (n - 1) list)) (nthOf wanted n list)
+
+abbrev pub valueAt : List ℕ → Found → Value
+valueAt bytes (At part) = value (within bytes (part .from) (part .to))
+valueAt bytes Absent = none
