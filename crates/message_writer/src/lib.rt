@@ -30,7 +30,7 @@ pub fn to_bytes<'a>(
     values: &'a [u8],
     payload: &'a [u8],
 ) -> Writing
-    ensures { λ r. ⌜ Writes (now (out .entry)) (record { messageType = message_type; code = code; messageId = message_id; token = now (token .entry); numbers = now (numbers .entry); lengths = now (lengths .entry); values = now (values .entry); payload = now (payload .entry) }) (now (out .exit)) r ⌝ }
+    ensures { λ r. ⌜ Writes (now (out .entry)) (record { messageType = «message_type»; code = code; messageId = «message_id»; token = now (token .entry); numbers = now (numbers .entry); lengths = now (lengths .entry); values = now (values .entry); payload = now (payload .entry) }) (now (out .exit)) r ⌝ }
 {
     if measure::takes(out.len(), message_type, code, token, numbers, lengths, values, payload) {
         let at = put::head(out, message_type, code, message_id, token);

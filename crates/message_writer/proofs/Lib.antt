@@ -1,0 +1,5 @@
+pub mod Tests
+pub mod Heads
+pub mod Measures
+pub mod Ahead
+pub mod Taken
