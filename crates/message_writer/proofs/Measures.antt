@@ -197,8 +197,8 @@ module _ (room : ℕ) (numbers lengths values : List ℕ) where
   pub uncounted : (length numbers ≡ length lengths → ⊥) → Small ≡ roomAfter 0 room numbers lengths values
   uncounted h = sym (all-small numbers lengths values 0 room (λ a. h (a .counts)))
 
-  module _ (left before at i number len : ℕ) (m : Measured room numbers lengths values left before at i) where
-    module _ (h : i < length numbers) (p : number ≡ getD numbers i 0) (q : len ≡ getD lengths i 0) where
+  module _ (left before at i : ℕ) (m : Measured room numbers lengths values left before at i) where
+    module _ (number len : ℕ) (h : i < length numbers) (p : number ≡ getD numbers i 0) (q : len ≡ getD lengths i 0) where
       next : roomAfter before left (number ∷ drop (i + 1) numbers) (len ∷ drop (i + 1) lengths) (drop at values) ≡ roomAfter 0 room numbers lengths values
       next =
           let k : i < length lengths = omega (arith, m .counts) in
