@@ -56,11 +56,11 @@ module _ (room before number len values : ℕ) where
   option-small h = rw (refute (optionFits room before number len values) (λ t. h (fits-option t)))
 
 -- what an answer says of the test behind it
-left-test : (b : Bool) (x m : ℕ) → cond b (Left x) Small ≡ Left m → (b ≡ true) × (x ≡ m)
+pub left-test : (b : Bool) (x m : ℕ) → cond b (Left x) Small ≡ Left m → (b ≡ true) × (x ≡ m)
 left-test true x m e = (refl, cc)
 left-test false x m e = let z : _≡_ {A = ℕ} 0 1 = cc in absurd (omega arith)
 
-small-test : (b : Bool) (x : ℕ) → cond b (Left x) Small ≡ Small → b ≡ true → ⊥
+pub small-test : (b : Bool) (x : ℕ) → cond b (Left x) Small ≡ Small → b ≡ true → ⊥
 small-test true x e t = let z : _≡_ {A = ℕ} 0 1 = cc in omega arith
 small-test false x e t = let z : _≡_ {A = Bool} false true = t in absurd (false≢true z)
 
@@ -135,7 +135,7 @@ module _ (before room number n : ℕ) (numbers lengths values : List ℕ) where
       }
 
   module _ (f : Fits room before number n (length values)) where
-    rest-fits : AllFit before room (number ∷ numbers) (n ∷ lengths) values → AllFit number (room - optionLength (number - before) n) numbers lengths (drop n values)
+    pub rest-fits : AllFit before room (number ∷ numbers) (n ∷ lengths) values → AllFit number (room - optionLength (number - before) n) numbers lengths (drop n values)
     unfolding total
     rest-fits a =
         record {
@@ -182,6 +182,10 @@ unfolding optionsFrom optionsBytes optionsOk total
 room-end before room values h =
     rw (all-fit [] [] values before room (record { counts = refl; sum = sym h; ok = refl; small = omega arith })) (ap Left (omega arith))
 
+-- the element at an index is the first of those from there on
+pub drop-next : (l : List ℕ) (i x : ℕ) → i < length l → x ≡ getD l i 0 → drop i l ≡ x ∷ drop (i + 1) l
+drop-next l i x h e = rw (e, add-one) (drop-cons l i 0 h)
+
 -- ---- the loop: what holds after i options
 
 pub record Measured (room : ℕ) (numbers lengths values : List ℕ) (left before at i : ℕ) : Type 0 where
@@ -201,9 +205,8 @@ module _ (room : ℕ) (numbers lengths values : List ℕ) where
     module _ (number len : ℕ) (h : i < length numbers) (p : number ≡ getD numbers i 0) (q : len ≡ getD lengths i 0) where
       next : roomAfter before left (number ∷ drop (i + 1) numbers) (len ∷ drop (i + 1) lengths) (drop at values) ≡ roomAfter 0 room numbers lengths values
       next =
-          let k : i < length lengths = omega (arith, m .counts) in
-          let e : drop i numbers ≡ number ∷ drop (i + 1) numbers = rw (p, add-one) (drop-cons numbers i 0 h) in
-          let f : drop i lengths ≡ len ∷ drop (i + 1) lengths = rw (q, add-one) (drop-cons lengths i 0 k) in
+          let e = drop-next numbers i number h p in
+          let f = drop-next lengths i len (omega (arith, m .counts)) q in
           (λ j. roomAfter before left (sym e j) (sym f j) (drop at values)) ∙ m .same
 
       pub measured-small : roomAfterOption left before number len (length values - at) ≡ Small → Small ≡ roomAfter 0 room numbers lengths values

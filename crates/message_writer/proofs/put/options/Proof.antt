@@ -1,11 +1,16 @@
+use Rattle.message_writer.proofs.Ahead.{Ahead}
+use lib.ListN.{length}
+use Prim.Native.Nat.{_-_}
+use native.Mathlib.Omega.{arith}
+use borrow.Author.Needs.{needs}
 use Rattle.message_writer.proofs.put.options.Statement.{statement}
 use Rattle.message_writer.proofs.put.options.Tie as tie
 
 abbrev Inv-loop : tie.InvT-loop
-Inv-loop out₀ start numbers lengths values to₀ before₀ at₀ i₀ out to before at i = ?
+Inv-loop out₀ start numbers lengths values to₀ before₀ at₀ i₀ out to before at i = Ahead out₀ start numbers lengths values out to before at i
 
 abbrev μ-loop : tie.MeasureT-loop
-μ-loop out₀ start numbers lengths values to₀ before₀ at₀ i₀ out to before at i = ?
+μ-loop out₀ start numbers lengths values to₀ before₀ at₀ i₀ out to before at i = length numbers - i
 
 loop-holds : tie.Need-loop-holds Inv-loop μ-loop
 loop-holds c = ?
