@@ -12,6 +12,10 @@ use Rattle.message.specs.Format.{optionHead, optionsBytes, optionsOk}
 use Rattle.message_writer.specs.Writer.{optionsFrom, describes, optionLength}
 use Rattle.message_writer.proofs.Measures.{Fits, AllFit, described, first-fits, rest-fits, drop-next}
 
+-- the next bytes of the values, by where they start and end
+pub part-is : (values : List ℕ) (at len : ℕ) → take (at + len - at) (drop at values) ≡ take len (drop at values)
+part-is values at len = let e : at + len - at ≡ len = omega arith in ap (λ (n : ℕ). take n (drop at values)) e
+
 -- after i options: those ahead fit, and where they are written next, all are
 pub record Ahead (out₀ : List ℕ) (start : ℕ) (numbers lengths values out : List ℕ) (to before at i : ℕ) : Type 0 where
   pub within : i ≤ length numbers

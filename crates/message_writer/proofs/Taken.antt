@@ -1,14 +1,17 @@
 -- What the test of a message says, and what the measure makes of it. Assumes nothing.
 use mathlib.Core.Path.{_≡_, refl, sym, ap, _∙_}
-use mathlib.Core.Bool.{Bool, true, false, cond, _&&_}
+use mathlib.Core.Bool.{Bool, true, false, cond, _&&_, false≢true}
 use mathlib.Core.List.{List, [], _∷_, _++_}
 use Prim.Native.Nat.{ℕ, _+_, _-_, _≤_, _<_}
 use native.Mathlib.Omega.{arith}
 use lib.Dec.{leb, eqb}
 use lib.ListN.{length, drop, length-append}
 use borrow.Author.Tests.{leb-true, le-leb}
+use Rattle.pieces.specs.Memory.{Put}
+use Rattle.pieces.proofs.Puts.{put-as}
 use Rattle.message.specs.Format.{bytesOf, headBytes, optionsBytes, payloadBytes, optionsOk, emptyOk, encodable}
-use Rattle.message_writer.specs.Writer.{Given, optionsFrom, describes, messageOf, takes, roomAfter, optionsFit, opening}
+use Rattle.message_writer.specs.Writer.{Given, Writes, optionsFrom, describes, messageOf, takes, roomAfter, optionsFit, opening}
+use Rattle.message_writer.specs.declared.Writing.the-variants.{Written, Refused}
 use Rattle.message_writer.specs.declared.Room.the-variants.{Left, Small}
 use Rattle.message_writer.proofs.Tests.{and-left, and-right, refute, same-test}
 use Rattle.message_writer.proofs.Measures.{AllFit, described, describes-by, all-fit, fit-all, left-test, small-test}
@@ -86,6 +89,9 @@ pub empty-is : (g : Given) → describes (g .numbers) (g .lengths) (g .values) �
 unfolding emptyOk
 empty-is g d = rw (count (g .numbers) (g .lengths) (g .values) (described (g .numbers) (g .lengths) (g .values) d .0))
 
+pub empty-refused : (room : ℕ) (g : Given) (r : Bool) → r ≡ cond (eqb (g .code) 0) (eqb (length (g .token) + length (g .numbers) + length (g .payload)) 0) true → r ≡ false → false ≡ takes room g
+empty-refused room g r e f = not-taken room g (λ t. false≢true (sym f ∙ e ∙ sym (empty-is g (t .described)) ∙ t .empty))
+
 module _ (room : ℕ) (g : Given) (h : 4 + length (g .token) ≤ room) where
   abbrev Left-over : ℕ
   Left-over = room - (4 + length (g .token))
@@ -120,3 +126,20 @@ module _ (room : ℕ) (g : Given) (h : 4 + length (g .token) ≤ room) where
         small = omega (arith, leb-true n left t, p .1, f .small);
       }))
       (λ t. le-leb n left (omega (arith, taken room g t .small, p .1, f .small)))
+
+-- ---- as it is written
+
+pub opening-length : (messageType code messageId : ℕ) (token : List ℕ) → length (opening messageType code messageId token) ≡ 4 + length token
+unfolding opening
+opening-length messageType code messageId token = omega arith
+
+module _ (out : List ℕ) (g : Given) where
+  pub writes-taken : (out′ : List ℕ) (r : ℕ) → takes (length out) g ≡ true
+      → Put out 0 (opening (g .messageType) (g .code) (g .messageId) (g .token) ++ (optionsOf g ++ payloadBytes (g .payload))) out′ r → Writes out g out′ (Written r)
+  writes-taken out′ r t p =
+      let q = put-as p (sym (bytes-are g)) in
+      let n : r ≡ length (bytesOf (messageOf g)) = omega (arith, q .to) in
+      record { answer = rw t (ap Written n); output = rw t (q .is) }
+
+  pub writes-refused : takes (length out) g ≡ false → Writes out g out (Refused 21)
+  writes-refused t = record { answer = rw t refl; output = rw t refl }

@@ -1,5 +1,6 @@
-use Rattle.message_writer.proofs.Ahead.{Ahead}
-use lib.ListN.{length}
+use Rattle.message_writer.proofs.Ahead.{Ahead, part-is, ahead-start, more, next-fits, value-length, next-room, ahead-next, ahead-done}
+use mathlib.Core.Path.{refl}
+use lib.ListN.{length, getD}
 use Prim.Native.Nat.{_-_}
 use native.Mathlib.Omega.{arith}
 use borrow.Author.Needs.{needs}
@@ -13,58 +14,61 @@ abbrev μ-loop : tie.MeasureT-loop
 μ-loop out₀ start numbers lengths values to₀ before₀ at₀ i₀ out to before at i = length numbers - i
 
 loop-holds : tie.Need-loop-holds Inv-loop μ-loop
-loop-holds c = ?
+loop-holds c = let s = c .before .before .before .before .pre in ahead-start _ _ _ _ _ (s .0) (s .1 .0) (s .1 .1)
 
 mul-wide : tie.Need-mul-wide Inv-loop μ-loop
-mul-wide c = ?
+mul-wide c = search needs
 
 shared-slice-read-wide : tie.Need-shared-slice-read-wide Inv-loop μ-loop
-shared-slice-read-wide c = ?
+shared-slice-read-wide c = search needs
 
 wide-requires : tie.Need-wide-requires Inv-loop μ-loop
-wide-requires c κs = ?
+wide-requires c κs = search needs
 
 mul-wide-2 : tie.Need-mul-wide-2 Inv-loop μ-loop
-mul-wide-2 c = ?
+mul-wide-2 c = search needs
 
 shared-slice-read-wide-2 : tie.Need-shared-slice-read-wide-2 Inv-loop μ-loop
-shared-slice-read-wide-2 c = ?
+shared-slice-read-wide-2 c = let m = more _ _ _ _ _ _ _ _ _ _ (c .before .before .before .before .loop .inv) _ (getD (c .before .before .before .before .before .before .before .before .before .args .lengths .now) (c .before .before .before .before .loop .i) 0) (c .before .before .before .loop-test .taken) (c .before .wide .ensures .0) refl in search needs
 
 wide-requires-2 : tie.Need-wide-requires-2 Inv-loop μ-loop
-wide-requires-2 c κs = ?
+wide-requires-2 c κs = search needs
 
 add-end : tie.Need-add-end Inv-loop μ-loop
-add-end c = ?
+add-end c = let f = next-fits _ _ _ _ _ _ _ _ _ _ (c .before .before .before .before .before .loop .inv) _ _ (c .before .before .before .before .loop-test .taken) (c .before .before .wide .ensures .0) (c .wide2 .ensures .0) in omega arith
 
 sub-option : tie.Need-sub-option Inv-loop μ-loop
-sub-option c = ?
+sub-option c = let f = next-fits _ _ _ _ _ _ _ _ _ _ (c .before .before .before .before .before .before .loop .inv) _ _ (c .before .before .before .before .before .loop-test .taken) (c .before .before .before .wide .ensures .0) (c .before .wide2 .ensures .0) in omega arith
 
 sub-option-2 : tie.Need-sub-option-2 Inv-loop μ-loop
-sub-option-2 c = ?
+sub-option-2 c = let f = next-fits _ _ _ _ _ _ _ _ _ _ (c .before .before .before .before .before .before .loop .inv) _ _ (c .before .before .before .before .before .loop-test .taken) (c .before .before .before .wide .ensures .0) (c .before .wide2 .ensures .0) in omega arith
 
 part-option-start : tie.Need-part-option-start Inv-loop μ-loop
-part-option-start c = ?
+part-option-start c = let f = next-fits _ _ _ _ _ _ _ _ _ _ (c .before .before .before .before .before .before .loop .inv) _ _ (c .before .before .before .before .before .loop-test .taken) (c .before .before .before .wide .ensures .0) (c .before .wide2 .ensures .0) in omega arith
 
 part-option-end : tie.Need-part-option-end Inv-loop μ-loop
-part-option-end c = ?
+part-option-end c = let f = next-fits _ _ _ _ _ _ _ _ _ _ (c .before .before .before .before .before .before .loop .inv) _ _ (c .before .before .before .before .before .loop-test .taken) (c .before .before .before .wide .ensures .0) (c .before .wide2 .ensures .0) in omega arith
 
 option-requires : tie.Need-option-requires Inv-loop μ-loop
-option-requires c κs = ?
+option-requires c κs =
+    let f = next-fits _ _ _ _ _ _ _ _ _ _ (c .before .before .before .before .before .before .before .loop .inv) _ _ (c .before .before .before .before .before .before .loop-test .taken) (c .before .before .before .before .wide .ensures .0) (c .before .before .wide2 .ensures .0) in
+    let n = value-length _ _ _ _ _ _ _ _ _ _ (c .before .before .before .before .before .before .before .loop .inv) _ _ (c .before .before .before .before .before .before .loop-test .taken) (c .before .before .before .before .wide .ensures .0) (c .before .before .wide2 .ensures .0) _ (part-is _ (c .before .before .before .before .before .before .before .loop .at) (c .before .before .wide2 .result)) in
+    ((omega arith, omega arith), next-room _ _ _ _ _ _ _ _ _ _ (c .before .before .before .before .before .before .before .loop .inv) _ _ (c .before .before .before .before .before .before .loop-test .taken) (c .before .before .before .before .wide .ensures .0) (c .before .before .wide2 .ensures .0) _ (part-is _ (c .before .before .before .before .before .before .before .loop .at) (c .before .before .wide2 .result)))
 
 add-i : tie.Need-add-i Inv-loop μ-loop
-add-i c = ?
+add-i c = search needs
 
 loop-less : tie.Need-loop-less Inv-loop μ-loop
-loop-less c = ?
+loop-less c = search needs
 
 loop-again : tie.Need-loop-again Inv-loop μ-loop
-loop-again c = ?
+loop-again c = ahead-next _ _ _ _ _ _ _ _ _ _ (c .before .before .before .before .before .before .before .before .before .before .loop .inv) _ _ (c .before .before .before .before .before .before .before .before .before .loop-test .taken) (c .before .before .before .before .before .before .before .wide .ensures .0) (c .before .before .before .before .before .wide2 .ensures .0) _ (part-is _ (c .before .before .before .before .before .before .before .before .before .before .loop .at) (c .before .before .before .before .before .wide2 .result)) _ _ (c .before .before .option .ensures)
 
 same-length : tie.Need-same-length Inv-loop μ-loop
-same-length c = ?
+same-length c = omega arith
 
 returns : tie.Need-returns Inv-loop μ-loop
-returns c = ?
+returns c = ahead-done _ _ _ _ _ _ _ _ _ _ (c .before .loop .inv) (c .loop-test .left)
 
 pub options-spec : {M : Type 1} → statement M
 options-spec =
