@@ -41,12 +41,13 @@ module _ (out₀ : List ℕ) (start : ℕ) (numbers lengths values : List ℕ) w
       }
 
   module _ (out : List ℕ) (to before at i : ℕ) (a : Ahead out₀ start numbers lengths values out to before at i) where
-    module _ (number len : ℕ) (h : i < length numbers) (p : number ≡ getD numbers i 0) (q : len ≡ getD lengths i 0) where
-      pub more : i < length lengths
-      more = omega (arith, a .fit .counts, length-drop i numbers, length-drop i lengths)
+    -- there is a length where there is a number
+    pub more : i < length numbers → i < length lengths
+    more h = omega (arith, a .fit .counts, length-drop i numbers, length-drop i lengths)
 
+    module _ (number len : ℕ) (h : i < length numbers) (p : number ≡ getD numbers i 0) (q : len ≡ getD lengths i 0) where
       fit-next : AllFit before (length out - to) (number ∷ drop (i + 1) numbers) (len ∷ drop (i + 1) lengths) (drop at values)
-      fit-next = rw (← (drop-next numbers i number h p), ← (drop-next lengths i len more q)) (a .fit)
+      fit-next = rw (← (drop-next numbers i number h p), ← (drop-next lengths i len (more h) q)) (a .fit)
 
       first : Fits (length out - to) before number len (length (drop at values))
       first = first-fits before (length out - to) number len (drop (i + 1) numbers) (drop (i + 1) lengths) (drop at values) fit-next
@@ -69,7 +70,7 @@ module _ (out₀ : List ℕ) (start : ℕ) (numbers lengths values : List ℕ) w
         bytes-next : (optionHead (number - before) (length value) ++ value) ++ optionsBytes number (optionsFrom (drop (i + 1) numbers) (drop (i + 1) lengths) (drop (at + len) values))
             ≡ optionsBytes before (optionsFrom (drop i numbers) (drop i lengths) (drop at values))
         unfolding optionsBytes optionsFrom
-        bytes-next = rw (v, drop-next numbers i number h p, drop-next lengths i len more q, drop-drop len at values)
+        bytes-next = rw (v, drop-next numbers i number h p, drop-next lengths i len (more h) q, drop-drop len at values)
 
         pub ahead-next : (out′ : List ℕ) (to′ : ℕ) → Put out to (optionHead (number - before) (length value) ++ value) out′ to′
             → Ahead out₀ start numbers lengths values out′ to′ number (at + len) (i + 1)

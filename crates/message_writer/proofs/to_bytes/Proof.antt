@@ -31,7 +31,7 @@ options-requires c κs =
     let t = taken (length (c .before .before .before .before .before .before .before .before .before .before .before .before .before .args .out .now)) (given (c .before .before .before .before .before .before .before .before .before .before .before .before .before)) (sym (c .before .before .before .before .before .before .takes .ensures _ (omega arith)) ∙ c .before .before .before .before .before .if1 .taken) in
     let a = c .before .before .before .before .before .before .before .before .before .before .before .before .before .args in
     let n = opening-length (a .message-type) (a .code) (a .message-id) (a .token .now) in
-    (t .described, t .ok, omega (arith, t .small, c .before .before .before .head .ensures .to, put-length (c .before .before .before .head .ensures)))
+    (t .described, (t .ok, omega (arith, t .small, c .before .before .before .head .ensures .to, put-length (c .before .before .before .head .ensures))))
 
 payload-requires : tie.Need-payload-requires
 payload-requires c κs =

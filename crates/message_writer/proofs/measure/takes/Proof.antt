@@ -30,7 +30,7 @@ empty-ok-requires : tie.Need-empty-ok-requires
 empty-ok-requires c κs = search needs
 
 returns-3 : tie.Need-returns-3
-returns-3 c = λ id h. empty-refused (c .before .before .before .before .before .before .before .before .before .args .room) (given (c .before .before .before .before .before .before .before .before .before) id) _ (c .before .empty-ok .ensures) (c .if3 .taken)
+returns-3 c = λ id h. empty-refused (c .before .before .before .before .before .before .before .before .before .args .room) (given (c .before .before .before .before .before .before .before .before .before) id) _ (c .before .empty-ok .ensures) (not-true _ (c .if3 .taken))
 
 add-head : tie.Need-add-head
 add-head c = search needs
@@ -54,7 +54,7 @@ payload-fits-requires : tie.Need-payload-fits-requires
 payload-fits-requires c κs = search needs
 
 returns-6 : tie.Need-returns-6
-returns-6 c = λ id h. c .payload-fits .ensures ∙ options-left (c .before .before .before .before .before .before .before .before .before .before .before .before .before .before .before .args .room) (given (c .before .before .before .before .before .before .before .before .before .before .before .before .before .before .before) id) (omega arith) _ (sym (c .before .before .before .before .options .ensures) ∙ c .before .before .left .given .1) (c .before .before .before .before .before .before .before .before .before .if1 .left) (omega arith) h (c .before .before .before .before .before .before .before .before .if2 .left) (sym (c .before .before .before .before .before .before .before .empty-ok .ensures) ∙ c .before .before .before .before .before .before .if3 .left)
+returns-6 c = λ id h. c .payload-fits .ensures ∙ options-left (c .before .before .before .before .before .before .before .before .before .before .before .before .before .before .before .args .room) (given (c .before .before .before .before .before .before .before .before .before .before .before .before .before .before .before) id) (omega arith) _ (sym (c .before .before .before .before .options .ensures) ∙ c .before .before .left .given .1) (c .before .before .before .before .before .before .before .before .before .if1 .left) (omega arith) h (c .before .before .before .before .before .before .before .before .if2 .left) (sym (c .before .before .before .before .before .before .before .empty-ok .ensures) ∙ not-false _ (c .before .before .before .before .before .before .if3 .left))
 
 pub takes-spec : {M : Type 1} → statement M
 takes-spec =

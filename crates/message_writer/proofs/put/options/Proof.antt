@@ -1,6 +1,5 @@
 use Rattle.message_writer.proofs.Ahead.{Ahead, part-is, ahead-start, more, next-fits, value-length, next-room, ahead-next, ahead-done}
-use mathlib.Core.Path.{refl}
-use lib.ListN.{length, getD}
+use lib.ListN.{length}
 use Prim.Native.Nat.{_-_}
 use native.Mathlib.Omega.{arith}
 use borrow.Author.Needs.{needs}
@@ -29,7 +28,7 @@ mul-wide-2 : tie.Need-mul-wide-2 Inv-loop μ-loop
 mul-wide-2 c = search needs
 
 shared-slice-read-wide-2 : tie.Need-shared-slice-read-wide-2 Inv-loop μ-loop
-shared-slice-read-wide-2 c = let m = more _ _ _ _ _ _ _ _ _ _ (c .before .before .before .before .loop .inv) _ (getD (c .before .before .before .before .before .before .before .before .before .args .lengths .now) (c .before .before .before .before .loop .i) 0) (c .before .before .before .loop-test .taken) (c .before .wide .ensures .0) refl in search needs
+shared-slice-read-wide-2 c = let m = more _ _ _ _ _ _ _ _ _ _ (c .before .before .before .before .loop .inv) (c .before .before .before .loop-test .taken) in search needs
 
 wide-requires-2 : tie.Need-wide-requires-2 Inv-loop μ-loop
 wide-requires-2 c κs = search needs
