@@ -1,7 +1,7 @@
 -- What the options leave of the room: by one option, and by all of them, one after another. Assumes nothing.
 use mathlib.Core.Path.{_≡_, refl, sym, ap, _∙_}
 use mathlib.Core.Bool.{Bool, true, false, cond, _&&_, false≢true}
-use mathlib.Core.List.{List, [], _∷_, _++_}
+use mathlib.Core.List.{List, [], _∷_}
 use Prim.Native.Nat.{ℕ, _+_, _-_, _≤_, _<_}
 use native.Mathlib.Numerals.{add-one}
 use native.Mathlib.Omega.{arith}
@@ -9,11 +9,10 @@ use lib.Dec.{leb, eqb}
 use lib.ListN.{length, getD, take, drop, length-append, length-drop, drop-of-length-le}
 use lib.Seq.{drop-cons, drop-drop, length-take-le}
 use borrow.Author.Tests.{leb-true, eqb-true, le-leb, eq-eqb}
-use Rattle.message.specs.Format.{optionHead, optionsBytes, optionsOk}
+use Rattle.message.specs.Format.{optionsBytes, optionsOk}
 use Rattle.message_writer.specs.Writer.{optionsFrom, total, describes, optionLength, optionFits, roomAfterOption, optionsFit, roomAfter}
-use Rattle.message_writer.specs.declared.Room.{Room}
 use Rattle.message_writer.specs.declared.Room.the-variants.{Left, Small}
-use Rattle.message_writer.proofs.Tests.{and-left, and-right, and-both, refute, same-test}
+use Rattle.message_writer.proofs.Tests.{and-left, and-right, refute, same-test}
 
 -- ---- one option
 
@@ -159,11 +158,11 @@ module _ (before room number n : ℕ) (numbers lengths values : List ℕ) where
     room-first =
         let left : ℕ = room - optionLength (number - before) n in
         let t : optionsFit before room (number ∷ numbers) (n ∷ lengths) values ≡ optionsFit number left numbers lengths (drop n values) =
-            same-test (optionsFit before room (number ∷ numbers) (n ∷ lengths) values) (optionsFit number left numbers lengths (drop n values))
-            (λ b. all-fit numbers lengths (drop n values) number left (rest-fits (fit-all (number ∷ numbers) (n ∷ lengths) values before room b)))
-            (λ b. all-fit (number ∷ numbers) (n ∷ lengths) values before room (fits-rest (fit-all numbers lengths (drop n values) number left b))) in
+        same-test (optionsFit before room (number ∷ numbers) (n ∷ lengths) values) (optionsFit number left numbers lengths (drop n values))
+        (λ b. all-fit numbers lengths (drop n values) number left (rest-fits (fit-all (number ∷ numbers) (n ∷ lengths) values before room b)))
+        (λ b. all-fit (number ∷ numbers) (n ∷ lengths) values before room (fits-rest (fit-all numbers lengths (drop n values) number left b))) in
         let e : room - length (optionsBytes before (optionsFrom (number ∷ numbers) (n ∷ lengths) values)) ≡ left - length (optionsBytes number (optionsFrom numbers lengths (drop n values))) =
-            omega (arith, bytes-first (f .there)) in
+        omega (arith, bytes-first (f .there)) in
         λ i. cond (t i) (Left (e i)) Small
 
   pub room-small : roomAfterOption room before number n (length values) ≡ Small → roomAfter before room (number ∷ numbers) (n ∷ lengths) values ≡ Small

@@ -2,7 +2,7 @@
 use mathlib.Core.Path.{_≡_, refl, sym, ap, _∙_}
 use mathlib.Core.Bool.{Bool, true, false, cond, _&&_, false≢true}
 use mathlib.Core.List.{List, [], _∷_, _++_}
-use Prim.Native.Nat.{ℕ, _+_, _-_, _≤_, _<_}
+use Prim.Native.Nat.{ℕ, _+_, _-_, _≤_}
 use native.Mathlib.Omega.{arith}
 use lib.Dec.{leb, eqb}
 use lib.ListN.{length, drop, length-append}
@@ -14,7 +14,7 @@ use Rattle.message_writer.specs.Writer.{Given, Writes, optionsFrom, desc
 use Rattle.message_writer.specs.declared.Writing.the-variants.{Written, Refused}
 use Rattle.message_writer.specs.declared.Room.the-variants.{Left, Small}
 use Rattle.message_writer.proofs.Tests.{and-left, and-right, refute, same-test}
-use Rattle.message_writer.proofs.Measures.{AllFit, described, describes-by, all-fit, fit-all, left-test, small-test}
+use Rattle.message_writer.proofs.Measures.{described, describes-by, all-fit, fit-all, left-test, small-test}
 
 -- the bytes of the options that are given
 abbrev pub optionsOf : Given → List ℕ

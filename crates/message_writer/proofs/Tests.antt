@@ -10,10 +10,6 @@ pub and-right : (a b : Bool) → (a && b) ≡ true → b ≡ true
 and-right true b e = e
 and-right false b e = absurd (false≢true e)
 
-pub and-both : (a b : Bool) → a ≡ true → b ≡ true → (a && b) ≡ true
-and-both true b p q = q
-and-both false b p q = p
-
 pub refute : (a : Bool) → (a ≡ true → ⊥) → a ≡ false
 refute true h = absurd (h refl)
 refute false h = refl

@@ -2,7 +2,7 @@
 mod measure;
 mod put;
 
-ghost use Rattle.message_writer.specs.Writer.{Given, Writes};
+ghost use Rattle.message_writer.specs.Writer.{Writes};
 
 pub enum Writing {
     // So many bytes, at the start of the output.
@@ -32,7 +32,16 @@ pub fn to_bytes<'a>(
 ) -> Writing
     ensures { λ r. ⌜ Writes (now (out .entry)) (record { messageType = «message_type»; code = code; messageId = «message_id»; token = now (token .entry); numbers = now (numbers .entry); lengths = now (lengths .entry); values = now (values .entry); payload = now (payload .entry) }) (now (out .exit)) r ⌝ }
 {
-    if measure::takes(out.len(), message_type, code, token, numbers, lengths, values, payload) {
+    if measure::takes(
+        out.len(),
+        message_type,
+        code,
+        token,
+        numbers,
+        lengths,
+        values,
+        payload,
+    ) {
         let at = put::head(out, message_type, code, message_id, token);
         let at = put::options(out, at, numbers, lengths, values);
         return Writing::Written(put::payload(out, at, payload));

@@ -6,7 +6,7 @@ ghost use Prim.Native.Nat.{ℕ, _+_, _^_, _<_, _≤_};
 ghost use lib.Dec.{leb, eqb};
 ghost use lib.ListN.{length};
 ghost use Rattle.message.specs.Format.{extension, payloadBytes};
-ghost use Rattle.message_writer.specs.Writer.{Given, takes, roomAfter, roomAfterOption};
+ghost use Rattle.message_writer.specs.Writer.{takes, roomAfter, roomAfterOption};
 
 pub fn wide(x: u32) -> usize
     ensures { λ r. ⌜ (r ≡ x) × (r < 2 ^ 32) ⌝ }

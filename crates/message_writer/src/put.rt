@@ -3,7 +3,7 @@ use crate::measure::wide;
 ghost use mathlib.Core.Path.{_≡_};
 ghost use mathlib.Core.Bool.{true};
 ghost use mathlib.Core.List.{_++_};
-ghost use Prim.Native.Nat.{_+_, _^_, _<_, _≤_};
+ghost use Prim.Native.Nat.{_+_, _<_, _≤_};
 ghost use lib.ListN.{length};
 ghost use Rattle.pieces.specs.Memory.{Put};
 ghost use Rattle.message.specs.Format.{nibbleOf, extension, optionHead, optionsBytes, optionsOk, payloadBytes};

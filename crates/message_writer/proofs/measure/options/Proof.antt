@@ -2,7 +2,6 @@ use mathlib.Core.Path.{sym, _∙_}
 use Rattle.message_writer.proofs.Measures.{Measured, measured-start, uncounted, measured-small, measured-next, measured-over, measured-done}
 use lib.ListN.{length}
 use Prim.Native.Nat.{_-_}
-use native.Mathlib.Omega.{arith}
 use borrow.Author.Needs.{needs}
 use Rattle.message_writer.proofs.measure.options.Statement.{statement}
 use Rattle.message_writer.proofs.measure.options.Tie as tie
