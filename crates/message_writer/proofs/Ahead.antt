@@ -12,10 +12,6 @@ use Rattle.message.specs.Format.{optionHead, optionsBytes, optionsOk}
 use Rattle.message_writer.specs.Writer.{optionsFrom, describes, optionLength}
 use Rattle.message_writer.proofs.Measures.{Fits, AllFit, described, first-fits, rest-fits, drop-next}
 
--- the next bytes of the values, by where they start and end
-pub part-is : (values : List ℕ) (at len : ℕ) → take (at + len - at) (drop at values) ≡ take len (drop at values)
-part-is values at len = let e : at + len - at ≡ len = omega arith in ap (λ (n : ℕ). take n (drop at values)) e
-
 -- after i options: those ahead fit, and where they are written next, all are
 pub record Ahead (out₀ : List ℕ) (start : ℕ) (numbers lengths values out : List ℕ) (to before at i : ℕ) : Type 0 where
   pub within : i ≤ length numbers
@@ -40,59 +36,75 @@ module _ (out₀ : List ℕ) (start : ℕ) (numbers lengths values : List ℕ) w
         put = λ m r p. p;
       }
 
-  module _ (out : List ℕ) (to before at i : ℕ) (a : Ahead out₀ start numbers lengths values out to before at i) where
-    -- there is a length where there is a number
-    pub more : i < length numbers → i < length lengths
-    more h = omega (arith, a .fit .counts, length-drop i numbers, length-drop i lengths)
+module _ {out₀ : List ℕ} {start : ℕ} {numbers lengths values out : List ℕ} {to before at i : ℕ} (a : Ahead out₀ start numbers lengths values out to before at i) where
+  -- there is a length where there is a number
+  pub more : i < length numbers → i < length lengths
+  more h = omega (arith, a .fit .counts, length-drop i numbers, length-drop i lengths)
 
-    module _ (number len : ℕ) (h : i < length numbers) (p : number ≡ getD numbers i 0) (q : len ≡ getD lengths i 0) where
-      fit-next : AllFit before (length out - to) (number ∷ drop (i + 1) numbers) (len ∷ drop (i + 1) lengths) (drop at values)
-      fit-next = rw (← (drop-next numbers i number h p), ← (drop-next lengths i len (more h) q)) (a .fit)
+  pub ahead-done : length numbers ≤ i → Put out₀ start (optionsBytes 0 (optionsFrom numbers lengths values)) out to
+  unfolding optionsBytes optionsFrom
+  ahead-done h =
+      let e : drop i numbers ≡ [] = drop-of-length-le numbers h in
+      a .put out to (rw e (put-none out to (a .room)))
 
-      first : Fits (length out - to) before number len (length (drop at values))
-      first = first-fits before (length out - to) number len (drop (i + 1) numbers) (drop (i + 1) lengths) (drop at values) fit-next
+-- ---- a turn: the next option is of this number and length
 
-      pub next-fits : Fits (length out - to) before number len (length values - at)
-      next-fits = rw length-drop at first
+pub record Turn (out₀ : List ℕ) (start : ℕ) (numbers lengths values out : List ℕ) (to before at i number len : ℕ) : Type 0 where
+  pub ahead : Ahead out₀ start numbers lengths values out to before at i
+  pub there : i < length numbers
+  pub numbered : number ≡ getD numbers i 0
+  pub sized : len ≡ getD lengths i 0
 
-      module _ (value : List ℕ) (v : value ≡ take len (drop at values)) where
-        pub value-length : length value ≡ len
-        value-length = ap length v ∙ length-take-le len (drop at values) (first .there)
+module _ {out₀ : List ℕ} {start : ℕ} {numbers lengths values out : List ℕ} {to before at i number len : ℕ} (t : Turn out₀ start numbers lengths values out to before at i number len) where
+  numbers-next : drop i numbers ≡ number ∷ drop (i + 1) numbers
+  numbers-next = drop-next numbers i number (t .there) (t .numbered)
 
-        -- there is room for the next option
-        pub next-room : to + length (optionHead (number - before) (length value) ++ value) ≤ length out
-        next-room =
-            let e = value-length in
-            let n = length-append (optionHead (number - before) (length value)) value in
-            let s : length (optionHead (number - before) (length value)) ≡ length (optionHead (number - before) len) = ap (λ (k : ℕ). length (optionHead (number - before) k)) e in
-            omega (arith, first .small, a .room)
+  lengths-next : drop i lengths ≡ len ∷ drop (i + 1) lengths
+  lengths-next = drop-next lengths i len (more (t .ahead) (t .there)) (t .sized)
 
-        bytes-next : (optionHead (number - before) (length value) ++ value) ++ optionsBytes number (optionsFrom (drop (i + 1) numbers) (drop (i + 1) lengths) (drop (at + len) values))
-            ≡ optionsBytes before (optionsFrom (drop i numbers) (drop i lengths) (drop at values))
-        unfolding optionsBytes optionsFrom
-        bytes-next = rw (v, drop-next numbers i number h p, drop-next lengths i len (more h) q, drop-drop len at values)
+  all-fit-next : AllFit before (length out - to) (number ∷ drop (i + 1) numbers) (len ∷ drop (i + 1) lengths) (drop at values)
+  all-fit-next = rw (← numbers-next, ← lengths-next) (t .ahead .fit)
 
-        pub ahead-next : (out′ : List ℕ) (to′ : ℕ) → Put out to (optionHead (number - before) (length value) ++ value) out′ to′
-            → Ahead out₀ start numbers lengths values out′ to′ number (at + len) (i + 1)
-        ahead-next out′ to′ w =
-            let l : length out′ ≡ length out = put-length w in
-            let e = value-length in
-            let n = length-append (optionHead (number - before) (length value)) value in
-            let s : length (optionHead (number - before) (length value)) ≡ length (optionHead (number - before) len) = ap (λ (k : ℕ). length (optionHead (number - before) k)) e in
-            let left : length out - to - optionLength (number - before) len ≡ length out′ - to′ = omega (arith, w .to) in
-            record {
-              within = omega arith;
-              reach = omega (arith, next-fits .there, a .reach);
-              room = omega (arith, w .to, next-room);
-              same = l ∙ a .same;
-              fit =
-                  rw (← left, ← (drop-drop len at values))
-                  (rest-fits before (length out - to) number len (drop (i + 1) numbers) (drop (i + 1) lengths) (drop at values) first fit-next);
-              put = λ m r x. a .put m r (put-as (put-then w x) bytes-next);
-            }
+  fits-next : Fits (length out - to) before number len (length (drop at values))
+  fits-next = first-fits before (length out - to) number len (drop (i + 1) numbers) (drop (i + 1) lengths) (drop at values) all-fit-next
 
-    pub ahead-done : length numbers ≤ i → Put out₀ start (optionsBytes 0 (optionsFrom numbers lengths values)) out to
-    unfolding optionsBytes optionsFrom
-    ahead-done h =
-        let e : drop i numbers ≡ [] = drop-of-length-le numbers h in
-        a .put out to (rw e (put-none out to (a .room)))
+  pub turn-fits : Fits (length out - to) before number len (length values - at)
+  turn-fits = rw length-drop at fits-next
+
+  -- its value, by where it starts and ends
+  abbrev pub Value : List ℕ
+  Value = take (at + len - at) (drop at values)
+
+  value-is : Value ≡ take len (drop at values)
+  value-is = let e : at + len - at ≡ len = omega arith in ap (λ (n : ℕ). take n (drop at values)) e
+
+  pub value-length : length Value ≡ len
+  value-length = ap length value-is ∙ length-take-le len (drop at values) (fits-next .there)
+
+  bytes-length : length (optionHead (number - before) (length Value) ++ Value) ≡ optionLength (number - before) len
+  bytes-length = length-append (optionHead (number - before) (length Value)) Value ∙ ap (optionLength (number - before)) value-length
+
+  pub turn-room : to + length (optionHead (number - before) (length Value) ++ Value) ≤ length out
+  turn-room = let n = bytes-length in omega (arith, fits-next .small, t .ahead .room)
+
+  bytes-next : (optionHead (number - before) (length Value) ++ Value) ++ optionsBytes number (optionsFrom (drop (i + 1) numbers) (drop (i + 1) lengths) (drop (at + len) values))
+      ≡ optionsBytes before (optionsFrom (drop i numbers) (drop i lengths) (drop at values))
+  unfolding optionsBytes optionsFrom
+  bytes-next = rw (value-is, numbers-next, lengths-next, drop-drop len at values)
+
+  pub turned : {out′ : List ℕ} {to′ : ℕ} → Put out to (optionHead (number - before) (length Value) ++ Value) out′ to′
+      → Ahead out₀ start numbers lengths values out′ to′ number (at + len) (i + 1)
+  turned {out′} {to′} w =
+      let l : length out′ ≡ length out = put-length w in
+      let n = bytes-length in
+      let left : length out - to - optionLength (number - before) len ≡ length out′ - to′ = omega (arith, w .to) in
+      record {
+        within = omega (arith, t .there);
+        reach = omega (arith, turn-fits .there, t .ahead .reach);
+        room = omega (arith, w .to, turn-room);
+        same = l ∙ t .ahead .same;
+        fit =
+            rw (← left, ← (drop-drop len at values))
+            (rest-fits before (length out - to) number len (drop (i + 1) numbers) (drop (i + 1) lengths) (drop at values) fits-next all-fit-next);
+        put = λ m r x. t .ahead .put m r (put-as (put-then w x) bytes-next);
+      }
