@@ -3,3 +3,4 @@ pub mod Heads
 pub mod Measures
 pub mod Ahead
 pub mod Taken
+pub mod Refuses

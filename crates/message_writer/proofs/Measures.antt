@@ -200,41 +200,41 @@ module _ (room : ℕ) (numbers lengths values : List ℕ) where
   pub uncounted : (length numbers ≡ length lengths → ⊥) → Small ≡ roomAfter 0 room numbers lengths values
   uncounted h = sym (all-small numbers lengths values 0 room (λ a. h (a .counts)))
 
-  module _ (left before at i : ℕ) (m : Measured room numbers lengths values left before at i) where
-    module _ (number len : ℕ) (h : i < length numbers) (p : number ≡ getD numbers i 0) (q : len ≡ getD lengths i 0) where
-      next : roomAfter before left (number ∷ drop (i + 1) numbers) (len ∷ drop (i + 1) lengths) (drop at values) ≡ roomAfter 0 room numbers lengths values
-      next =
-          let e = drop-next numbers i number h p in
-          let f = drop-next lengths i len (omega (arith, m .counts)) q in
-          (λ j. roomAfter before left (sym e j) (sym f j) (drop at values)) ∙ m .same
+module _ {room : ℕ} {numbers lengths values : List ℕ} {left before at i : ℕ} (m : Measured room numbers lengths values left before at i) where
+  module _ {number len : ℕ} (h : i < length numbers) (p : number ≡ getD numbers i 0) (q : len ≡ getD lengths i 0) where
+    next : roomAfter before left (number ∷ drop (i + 1) numbers) (len ∷ drop (i + 1) lengths) (drop at values) ≡ roomAfter 0 room numbers lengths values
+    next =
+        let e = drop-next numbers i number h p in
+        let f = drop-next lengths i len (omega (arith, m .counts)) q in
+        (λ j. roomAfter before left (sym e j) (sym f j) (drop at values)) ∙ m .same
 
-      pub measured-small : roomAfterOption left before number len (length values - at) ≡ Small → Small ≡ roomAfter 0 room numbers lengths values
-      measured-small e =
-          sym (room-small before left number len (drop (i + 1) numbers) (drop (i + 1) lengths) (drop at values) (rw length-drop e)) ∙ next
+    pub measured-small : roomAfterOption left before number len (length values - at) ≡ Small → Small ≡ roomAfter 0 room numbers lengths values
+    measured-small e =
+        sym (room-small before left number len (drop (i + 1) numbers) (drop (i + 1) lengths) (drop at values) (rw length-drop e)) ∙ next
 
-      pub measured-next : (after : ℕ) → roomAfterOption left before number len (length values - at) ≡ Left after
-          → Measured room numbers lengths values after number (at + len) (i + 1)
-      measured-next after e =
-          let f = fits-option left before number len (length values - at) (left-test (optionFits left before number len (length values - at)) (left - optionLength (number - before) len) after e .0) in
-          record {
-            counts = m .counts;
-            within = omega arith;
-            reach = omega (arith, f .there, m .reach);
-            same =
-                rw (← (drop-drop len at values))
-                (sym (room-left before left number len (drop (i + 1) numbers) (drop (i + 1) lengths) (drop at values) after (rw length-drop e)) ∙ next);
-          }
+    pub measured-next : (after : ℕ) → roomAfterOption left before number len (length values - at) ≡ Left after
+        → Measured room numbers lengths values after number (at + len) (i + 1)
+    measured-next after e =
+        let f = fits-option left before number len (length values - at) (left-test (optionFits left before number len (length values - at)) (left - optionLength (number - before) len) after e .0) in
+        record {
+          counts = m .counts;
+          within = omega arith;
+          reach = omega (arith, f .there, m .reach);
+          same =
+              rw (← (drop-drop len at values))
+              (sym (room-left before left number len (drop (i + 1) numbers) (drop (i + 1) lengths) (drop at values) after (rw length-drop e)) ∙ next);
+        }
 
-    module _ (h : length numbers ≤ i) where
-      ended : roomAfter before left [] [] (drop at values) ≡ roomAfter 0 room numbers lengths values
-      ended =
-          let e : drop i numbers ≡ [] = drop-of-length-le numbers h in
-          let f : drop i lengths ≡ [] = drop-of-length-le lengths {i = i} (omega (arith, m .counts)) in
-          (λ j. roomAfter before left (sym e j) (sym f j) (drop at values)) ∙ m .same
+  module _ (h : length numbers ≤ i) where
+    ended : roomAfter before left [] [] (drop at values) ≡ roomAfter 0 room numbers lengths values
+    ended =
+        let e : drop i numbers ≡ [] = drop-of-length-le numbers h in
+        let f : drop i lengths ≡ [] = drop-of-length-le lengths {i = i} (omega (arith, m .counts)) in
+        (λ j. roomAfter before left (sym e j) (sym f j) (drop at values)) ∙ m .same
 
-      pub measured-over : at < length values → Small ≡ roomAfter 0 room numbers lengths values
-      unfolding total
-      measured-over k = sym (all-small [] [] (drop at values) before left (λ a. omega (arith, a .sum, length-drop at values))) ∙ ended
+    pub measured-over : at < length values → Small ≡ roomAfter 0 room numbers lengths values
+    unfolding total
+    measured-over k = sym (all-small [] [] (drop at values) before left (λ a. omega (arith, a .sum, length-drop at values))) ∙ ended
 
-      pub measured-done : length values ≤ at → Left left ≡ roomAfter 0 room numbers lengths values
-      measured-done k = sym (room-end before left (drop at values) (rw length-drop (omega arith))) ∙ ended
+    pub measured-done : length values ≤ at → Left left ≡ roomAfter 0 room numbers lengths values
+    measured-done k = sym (room-end before left (drop at values) (rw length-drop (omega arith))) ∙ ended
