@@ -1,12 +1,12 @@
 -- What the writer makes of what it is given.
-use Prim.Native.Nat.{ℕ, _+_, _-_}
+use Prim.Native.Nat.{ℕ, _+_, _-_, _*_, _/_, _%_}
 use mathlib.Core.Bool.{Bool, cond, _&&_}
 use mathlib.Core.List.{List, [], _∷_}
 use mathlib.Core.Path.{_≡_}
 use lib.Dec.{leb, eqb}
 use lib.ListN.{length, take, drop}
 use Rattle.pieces.specs.Memory.{patch}
-use Rattle.message.specs.Format.{CoapOption, Message, bytesOf, optionsBytes, encodable, optionsOk}
+use Rattle.message.specs.Format.{CoapOption, Message, bytesOf, optionHead, optionsBytes, encodable, optionsOk}
 use Rattle.message_writer.specs.declared.Writing.{Writing}
 use Rattle.message_writer.specs.declared.Writing.the-variants.{Written, Refused}
 use Rattle.message_writer.specs.declared.Room.{Room}
@@ -49,7 +49,7 @@ messageOf g = record {
 }
 
 -- "A message without an encoding that the reader takes .. or an output too small" is not taken.
-abbrev pub takes : ℕ → Given → Bool
+unfoldable pub takes : ℕ → Given → Bool
 takes room g =
     describes (g .numbers) (g .lengths) (g .values) && encodable (messageOf g) && leb (length (bytesOf (messageOf g))) room
 
@@ -64,9 +64,32 @@ pub record Writes (out : List ℕ) (g : Given) (out′ : List ℕ) (r : Writing)
   pub answer : r ≡ writingOf (length out) g
   pub output : out′ ≡ outputOf out g
 
--- What the options leave of the room, or that they are too many, or have no encoding.
-abbrev pub roomAfter : ℕ → List ℕ → List ℕ → List ℕ → Room
-roomAfter room numbers lengths values =
-    cond (describes numbers lengths values && optionsOk 0 (optionsFrom numbers lengths values) && leb (length (optionsBytes 0 (optionsFrom numbers lengths values))) room)
-    (Left (room - length (optionsBytes 0 (optionsFrom numbers lengths values))))
-    Small
+abbrev pub optionLength : ℕ → ℕ → ℕ
+optionLength delta len = length (optionHead delta len) + len
+
+-- An option of this number after one of the number `before`, whose value has so many of the bytes left, has an encoding and fits.
+unfoldable pub optionFits : ℕ → ℕ → ℕ → ℕ → ℕ → Bool
+optionFits room before number len values =
+    leb before number && leb number 65535 && leb len 65804 && leb len values && leb (optionLength (number - before) len) room
+
+-- What it leaves of the room.
+abbrev pub roomAfterOption : ℕ → ℕ → ℕ → ℕ → ℕ → Room
+roomAfterOption room before number len values =
+    cond (optionFits room before number len values) (Left (room - optionLength (number - before) len)) Small
+
+-- All options, the first after one of the number `before`, have an encoding and fit.
+unfoldable pub optionsFit : ℕ → ℕ → List ℕ → List ℕ → List ℕ → Bool
+optionsFit before room numbers lengths values =
+    describes numbers lengths values
+    && optionsOk before (optionsFrom numbers lengths values)
+    && leb (length (optionsBytes before (optionsFrom numbers lengths values))) room
+
+-- What they leave of the room.
+abbrev pub roomAfter : ℕ → ℕ → List ℕ → List ℕ → List ℕ → Room
+roomAfter before room numbers lengths values =
+    cond (optionsFit before room numbers lengths values) (Left (room - length (optionsBytes before (optionsFrom numbers lengths values)))) Small
+
+-- The first bytes: the head, and the token.
+unfoldable pub opening : ℕ → ℕ → ℕ → List ℕ → List ℕ
+opening messageType code messageId token =
+    (64 + messageType * 16 + length token) ∷ code ∷ (messageId / 256) ∷ (messageId % 256) ∷ token

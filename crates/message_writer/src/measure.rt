@@ -1,12 +1,12 @@
 // Whether a message is taken, before a byte of it is written.
 use crate::Room;
 ghost use mathlib.Core.Path.{_≡_};
-ghost use mathlib.Core.Bool.{cond};
-ghost use Prim.Native.Nat.{_+_, _^_, _<_, _≤_};
-ghost use lib.Dec.{ltb, leb};
+ghost use mathlib.Core.Bool.{cond, true};
+ghost use Prim.Native.Nat.{ℕ, _+_, _^_, _<_, _≤_};
+ghost use lib.Dec.{leb, eqb};
 ghost use lib.ListN.{length};
 ghost use Rattle.message.specs.Format.{extension, payloadBytes};
-ghost use Rattle.message_writer.specs.Writer.{roomAfter, takes, Given};
+ghost use Rattle.message_writer.specs.Writer.{takes, roomAfter, roomAfterOption};
 
 pub fn wide(x: u32) -> usize
     ensures { λ r. ⌜ (r ≡ x) × (r < 2 ^ 32) ⌝ }
@@ -28,7 +28,9 @@ fn extension_length(n: usize) -> usize
 }
 
 // What one option leaves of the room, of a number after `before` and with so many bytes of values left.
-fn option<'a>(room: usize, before: usize, number: usize, len: usize, values: usize) -> Room {
+fn option(room: usize, before: usize, number: usize, len: usize, values: usize) -> Room
+    ensures { λ r. ⌜ r ≡ roomAfterOption room before number len values ⌝ }
+{
     if number < before {
         return Room::Small;
     }
@@ -49,7 +51,7 @@ fn option<'a>(room: usize, before: usize, number: usize, len: usize, values: usi
 }
 
 fn options<'a>(room: usize, numbers: &'a [u32], lengths: &'a [u32], values: &'a [u8]) -> Room
-    ensures { λ r. ⌜ r ≡ roomAfter room (now (numbers .entry)) (now (lengths .entry)) (now (values .entry)) ⌝ }
+    ensures { λ r. ⌜ r ≡ roomAfter 0 room (now (numbers .entry)) (now (lengths .entry)) (now (values .entry)) ⌝ }
 {
     if numbers.len() != lengths.len() {
         return Room::Small;
@@ -85,6 +87,23 @@ fn payload_fits(room: usize, payload: &[u8]) -> bool
     payload.len() < room
 }
 
+// "A code of 0.00 (empty) has token length 0 and nothing after the message ID."
+fn empty_ok(code: u8, token: usize, options: usize, payload: usize) -> bool
+    ensures { λ r. ⌜ r ≡ cond (eqb code 0) (eqb (token + options + payload) 0) true ⌝ }
+{
+    if code != 0 {
+        return true;
+    }
+    if token != 0 {
+        return false;
+    }
+    if options != 0 {
+        return false;
+    }
+    payload == 0
+}
+
+// A message ID of 16 bits is always taken.
 pub fn takes<'a>(
     room: usize,
     message_type: u8,
@@ -94,22 +113,23 @@ pub fn takes<'a>(
     lengths: &'a [u32],
     values: &'a [u8],
     payload: &'a [u8],
-) -> bool {
+) -> bool
+    ensures { λ r. ⌜ ((id : ℕ) → id ≤ 65535 → r ≡ takes room (record { messageType = «message_type»; code = code; messageId = id; token = now (token .entry); numbers = now (numbers .entry); lengths = now (lengths .entry); values = now (values .entry); payload = now (payload .entry) })) ⌝ }
+{
     if 3 < message_type {
         return false;
     }
     if 8 < token.len() {
         return false;
     }
-    if code == 0 {
-        if 0 < token.len() + numbers.len() + payload.len() {
-            return false;
-        }
-    }
-    if room < 4 + token.len() {
+    if !empty_ok(code, token.len(), numbers.len(), payload.len()) {
         return false;
     }
-    let Room::Left(left) = options(room - (4 + token.len()), numbers, lengths, values) else {
+    let head = 4 + token.len();
+    if room < head {
+        return false;
+    }
+    let Room::Left(left) = options(room - head, numbers, lengths, values) else {
         return false;
     };
     payload_fits(left, payload)

@@ -1,11 +1,13 @@
 // The bytes of a message, put into an output that has room for them.
 use crate::measure::wide;
 ghost use mathlib.Core.Path.{_≡_};
+ghost use mathlib.Core.Bool.{true};
 ghost use mathlib.Core.List.{_++_};
-ghost use Prim.Native.Nat.{_+_, _^_, _<_, _≤_};
+ghost use Prim.Native.Nat.{_+_, _<_, _≤_};
 ghost use lib.ListN.{length};
 ghost use Rattle.pieces.specs.Memory.{Put};
-ghost use Rattle.message.specs.Format.{nibbleOf, extension, optionHead, payloadBytes};
+ghost use Rattle.message.specs.Format.{nibbleOf, extension, optionHead, optionsBytes, optionsOk, payloadBytes};
+ghost use Rattle.message_writer.specs.Writer.{optionsFrom, describes, opening};
 
 fn nibble_of(n: usize) -> u8
     ensures { λ r. ⌜ (r ≡ nibbleOf n) × (r < 15) ⌝ }
@@ -59,7 +61,12 @@ pub fn options<'a>(
     numbers: &'a [u32],
     lengths: &'a [u32],
     values: &'a [u8],
-) -> usize {
+) -> usize
+    requires { ⌜ describes (now numbers) (now lengths) (now values) ≡ true ⌝ }
+    requires { ⌜ optionsOk 0 (optionsFrom (now numbers) (now lengths) (now values)) ≡ true ⌝ }
+    requires { ⌜ start + length (optionsBytes 0 (optionsFrom (now numbers) (now lengths) (now values))) ≤ length (now out) ⌝ }
+    ensures { λ r. ⌜ Put (now (out .entry)) start (optionsBytes 0 (optionsFrom (now (numbers .entry)) (now (lengths .entry)) (now (values .entry)))) (now (out .exit)) r ⌝ }
+{
     let mut to = start;
     let mut before = 0;
     let mut at = 0;
@@ -75,7 +82,11 @@ pub fn options<'a>(
     to
 }
 
-pub fn head(out: &mut [u8], message_type: u8, code: u8, message_id: u16, token: &[u8]) -> usize {
+pub fn head(out: &mut [u8], message_type: u8, code: u8, message_id: u16, token: &[u8]) -> usize
+    requires { ⌜ («message_type» ≤ 3) × (length (now token) ≤ 8) ⌝ }
+    requires { ⌜ 4 + length (now token) ≤ length (now out) ⌝ }
+    ensures { λ r. ⌜ Put (now (out .entry)) 0 (opening «message_type» code «message_id» (now (token .entry))) (now (out .exit)) r ⌝ }
+{
     let at = pieces::put_byte(out, 0, 64 + message_type * 16 + token.len() as u8);
     let at = pieces::put_byte(out, at, code);
     let at = pieces::put_byte(out, at, (message_id / 256) as u8);

@@ -1,0 +1,6 @@
+pub mod Tests
+pub mod Heads
+pub mod Measures
+pub mod Ahead
+pub mod Taken
+pub mod Refuses
