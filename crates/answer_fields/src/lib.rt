@@ -3,7 +3,7 @@ use block_state::Answer;
 use negotiation::MaybeBlock;
 ghost use Prim.Native.Nat.{_+_, _*_, _≤_};
 ghost use lib.ListN.{length};
-ghost use Rattle.script_text.specs.Text.{Put};
+ghost use Rattle.pieces.specs.Memory.{Put};
 ghost use Rattle.answer_fields.specs.Fields.{maybeText, nameOf, block1Text, block2Text, bytesText};
 
 pub fn put_name(out: &mut [u8], at: usize, answer: Answer) -> usize
@@ -12,16 +12,16 @@ pub fn put_name(out: &mut [u8], at: usize, answer: Answer) -> usize
     ensures { λ r. ⌜ r ≤ at + 28 ⌝ }
 {
     match answer {
-        Answer::Continue(_) => script_text::put(out, at, b"Continue"),
-        Answer::TooLarge(_) => script_text::put(out, at, b"TooLarge"),
-        Answer::Handed(_, _) => script_text::put(out, at, b"Handed"),
-        Answer::Pass => script_text::put(out, at, b"Pass"),
-        Answer::Served(_, _, _, _) => script_text::put(out, at, b"Served"),
-        Answer::Plain => script_text::put(out, at, b"Plain"),
-        Answer::Whole(_, _) => script_text::put(out, at, b"Whole"),
-        Answer::First(_, _) => script_text::put(out, at, b"First"),
+        Answer::Continue(_) => pieces::put(out, at, b"Continue"),
+        Answer::TooLarge(_) => pieces::put(out, at, b"TooLarge"),
+        Answer::Handed(_, _) => pieces::put(out, at, b"Handed"),
+        Answer::Pass => pieces::put(out, at, b"Pass"),
+        Answer::Served(_, _, _, _) => pieces::put(out, at, b"Served"),
+        Answer::Plain => pieces::put(out, at, b"Plain"),
+        Answer::Whole(_, _) => pieces::put(out, at, b"Whole"),
+        Answer::First(_, _) => pieces::put(out, at, b"First"),
         Answer::Refused(n) => {
-            let k = script_text::put(out, at, b"refused-");
+            let k = pieces::put(out, at, b"refused-");
             script_text::put_decimal(out, k, n as u64)
         }
     }
@@ -34,7 +34,7 @@ fn put_maybe(out: &mut [u8], at: usize, block: MaybeBlock) -> usize
 {
     match block {
         MaybeBlock::Given(b) => script_text::put_block(out, at, b),
-        MaybeBlock::Absent => script_text::put_byte(out, at, b'-'),
+        MaybeBlock::Absent => pieces::put_byte(out, at, b'-'),
     }
 }
 
@@ -47,12 +47,12 @@ pub fn put_block1(out: &mut [u8], at: usize, answer: Answer) -> usize
         Answer::Continue(b) => script_text::put_block(out, at, b),
         Answer::TooLarge(b) => script_text::put_block(out, at, b),
         Answer::Handed(b, _) => script_text::put_block(out, at, b),
-        Answer::Pass => script_text::put_byte(out, at, b'-'),
+        Answer::Pass => pieces::put_byte(out, at, b'-'),
         Answer::Served(block1, _, _, _) => put_maybe(out, at, block1),
-        Answer::Plain => script_text::put_byte(out, at, b'-'),
-        Answer::Whole(_, _) => script_text::put_byte(out, at, b'-'),
-        Answer::First(_, _) => script_text::put_byte(out, at, b'-'),
-        Answer::Refused(_) => script_text::put_byte(out, at, b'-'),
+        Answer::Plain => pieces::put_byte(out, at, b'-'),
+        Answer::Whole(_, _) => pieces::put_byte(out, at, b'-'),
+        Answer::First(_, _) => pieces::put_byte(out, at, b'-'),
+        Answer::Refused(_) => pieces::put_byte(out, at, b'-'),
     }
 }
 
@@ -62,15 +62,15 @@ pub fn put_block2(out: &mut [u8], at: usize, answer: Answer) -> usize
     ensures { λ r. ⌜ r ≤ at + 50 ⌝ }
 {
     match answer {
-        Answer::Continue(_) => script_text::put_byte(out, at, b'-'),
-        Answer::TooLarge(_) => script_text::put_byte(out, at, b'-'),
-        Answer::Handed(_, _) => script_text::put_byte(out, at, b'-'),
-        Answer::Pass => script_text::put_byte(out, at, b'-'),
+        Answer::Continue(_) => pieces::put_byte(out, at, b'-'),
+        Answer::TooLarge(_) => pieces::put_byte(out, at, b'-'),
+        Answer::Handed(_, _) => pieces::put_byte(out, at, b'-'),
+        Answer::Pass => pieces::put_byte(out, at, b'-'),
         Answer::Served(_, b, _, _) => script_text::put_block(out, at, b),
-        Answer::Plain => script_text::put_byte(out, at, b'-'),
+        Answer::Plain => pieces::put_byte(out, at, b'-'),
         Answer::Whole(b, _) => script_text::put_block(out, at, b),
         Answer::First(b, _) => script_text::put_block(out, at, b),
-        Answer::Refused(_) => script_text::put_byte(out, at, b'-'),
+        Answer::Refused(_) => pieces::put_byte(out, at, b'-'),
     }
 }
 
@@ -80,14 +80,14 @@ pub fn put_bytes(out: &mut [u8], at: usize, answer: Answer, bytes: &[u8]) -> usi
     ensures { λ r. ⌜ r ≤ at + 2 * length (now (bytes .entry)) + 1 ⌝ }
 {
     match answer {
-        Answer::Continue(_) => script_text::put_byte(out, at, b'-'),
-        Answer::TooLarge(_) => script_text::put_byte(out, at, b'-'),
+        Answer::Continue(_) => pieces::put_byte(out, at, b'-'),
+        Answer::TooLarge(_) => pieces::put_byte(out, at, b'-'),
         Answer::Handed(_, _) => script_text::put_shown(out, at, bytes),
         Answer::Pass => script_text::put_shown(out, at, bytes),
         Answer::Served(_, _, _, _) => script_text::put_shown(out, at, bytes),
-        Answer::Plain => script_text::put_byte(out, at, b'-'),
+        Answer::Plain => pieces::put_byte(out, at, b'-'),
         Answer::Whole(_, _) => script_text::put_shown(out, at, bytes),
         Answer::First(_, _) => script_text::put_shown(out, at, bytes),
-        Answer::Refused(_) => script_text::put_byte(out, at, b'-'),
+        Answer::Refused(_) => pieces::put_byte(out, at, b'-'),
     }
 }

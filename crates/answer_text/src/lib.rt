@@ -2,7 +2,7 @@
 use block_state::Answer;
 ghost use Prim.Native.Nat.{_+_, _*_, _≤_};
 ghost use lib.ListN.{length};
-ghost use Rattle.script_text.specs.Text.{Put};
+ghost use Rattle.pieces.specs.Memory.{Put};
 ghost use Rattle.answer_text.specs.Answer.{answerText, unreadableText};
 
 // The line with its end. `bytes` are the body or chunk that the answer names; they are shown where it has one.
@@ -12,15 +12,15 @@ pub fn put_answer(out: &mut [u8], at: usize, n: u64, answer: Answer, bytes: &[u8
     ensures { λ r. ⌜ r ≤ at + 2 * length (now (bytes .entry)) + 200 ⌝ }
 {
     let k = script_text::put_decimal(out, at, n);
-    let k = script_text::put_byte(out, k, b' ');
+    let k = pieces::put_byte(out, k, b' ');
     let k = answer_fields::put_name(out, k, answer);
-    let k = script_text::put_byte(out, k, b' ');
+    let k = pieces::put_byte(out, k, b' ');
     let k = answer_fields::put_block1(out, k, answer);
-    let k = script_text::put_byte(out, k, b' ');
+    let k = pieces::put_byte(out, k, b' ');
     let k = answer_fields::put_block2(out, k, answer);
-    let k = script_text::put_byte(out, k, b' ');
+    let k = pieces::put_byte(out, k, b' ');
     let k = answer_fields::put_bytes(out, k, answer, bytes);
-    script_text::put_byte(out, k, b'\n')
+    pieces::put_byte(out, k, b'\n')
 }
 
 pub fn put_unreadable(out: &mut [u8], at: usize, n: u64) -> usize
@@ -29,5 +29,5 @@ pub fn put_unreadable(out: &mut [u8], at: usize, n: u64) -> usize
     ensures { λ r. ⌜ r ≤ at + 50 ⌝ }
 {
     let k = script_text::put_decimal(out, at, n);
-    script_text::put(out, k, b" unreadable - - -\n")
+    pieces::put(out, k, b" unreadable - - -\n")
 }

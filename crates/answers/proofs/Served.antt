@@ -6,14 +6,13 @@ use native.Mathlib.Omega.{arith}
 use lib.ListN.{length, take, drop}
 use lib.Seq.{take-take, drop-drop}
 use Rattle.pieces.specs.Memory.{part}
-use Rattle.pieces.proofs.Memory.{drop-part, take-part}
+use Rattle.pieces.proofs.Memory.{drop-part, take-part, within-there}
 use Rattle.block_value.specs.Value.{blockSize, blockStart}
 use Rattle.block_value.specs.declared.BlockValue.{BlockValue}
 use Rattle.negotiation.specs.Chunk.{chunkOf}
 use Rattle.negotiation.specs.declared.Chunk.the-variants.{Bytes}
 use Rattle.negotiation.proofs.Laws.{chunk-bounds}
 use Rattle.answers.specs.Parts.{partOf}
-use Rattle.answers.proofs.Parted.{part-there}
 
 -- Where n bytes of payload are cached from index `at` of the response memory on, and the chunk for b is taken, the part that the answer names
 -- is bytes ks up to min(ks + s, n) of that payload.
@@ -23,6 +22,6 @@ unfolding part
 served-shows m at n b x from to e fits =
     let k = chunk-bounds b n x from to e in
     let q : (at + to) - (at + from) ≡ to - from = omega arith in
-    sym (part-there m (record { from = at + from; to = at + to }) (omega arith) (omega arith))
+    sym (within-there m (at + from) (at + to) (omega arith) (omega arith))
     ∙ rw q (sym (ap (take (to - from)) (drop-part m at n from (omega arith) fits) ∙ take-part m (at + from) (n - from) (to - from) (omega arith)))
     ∙ (λ i. part (part m at n) (k .starts i) (k .ends i - k .starts i))

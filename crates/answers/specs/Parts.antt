@@ -1,10 +1,7 @@
 -- The bytes that an answer shows: the message's own payload, or a part of a lent memory. Never a copy.
-use Prim.Native.Nat.{ℕ, _-_}
-use mathlib.Core.Bool.{cond, _&&_}
+use Prim.Native.Nat.{ℕ}
 use mathlib.Core.List.{List, []}
-use lib.ListN.{length}
-use lib.Dec.{leb}
-use Rattle.pieces.specs.Memory.{part}
+use Rattle.pieces.specs.Memory.{within}
 use Rattle.block_state.specs.declared.Part.{Part}
 use Rattle.block_state.specs.declared.Answer.{Answer}
 use Rattle.block_state.specs.declared.Answer.the-variants.{Continue, TooLarge, Handed, Pass, Served, Plain, Whole, First, Refused}
@@ -30,8 +27,8 @@ shownBy (First b chunk) = shows Nothing Nothing Nothing (Within chunk)
 shownBy (Refused n) = shows Nothing Nothing Nothing Nothing
 
 -- "An empty part if the answer .. names a part that isn't there."
-unfoldable pub partOf : List ℕ → Part → List ℕ
-partOf m p = cond (leb (p .from) (p .to) && leb (p .to) (length m)) (part m (p .from) (p .to - p .from)) []
+abbrev pub partOf : List ℕ → Part → List ℕ
+partOf m p = within m (p .from) (p .to)
 
 -- "An empty part if the answer has none."
 abbrev pub bytesOf : Source → List ℕ → List ℕ → List ℕ

@@ -2,9 +2,8 @@
 use crate::Shows;
 use crate::Source;
 use block_state::Answer;
-use block_state::Part;
 ghost use mathlib.Core.Path.{_≡_};
-ghost use Rattle.answers.specs.Parts.{shows, shownBy, partOf, bytesOf, bodyOf, servedHead, servedChunk, sentBytes};
+ghost use Rattle.answers.specs.Parts.{shows, shownBy, bytesOf, bodyOf, servedHead, servedChunk, sentBytes};
 
 fn shown(body: Source, head: Source, chunk: Source, sent: Source) -> Shows
     ensures { λ r. ⌜ r ≡ shows body head chunk sent ⌝ }
@@ -39,27 +38,13 @@ fn shown_by(answer: Answer) -> Shows
     }
 }
 
-fn part_of(memory: &[u8], part: Part) -> &[u8]
-    ensures { λ r. ⌜ now r ≡ partOf (now (memory .entry)) part ⌝ }
-{
-    let from = part.from;
-    let to = part.to;
-    if to < from {
-        return &memory[0..0];
-    }
-    if memory.len() < to {
-        return &memory[0..0];
-    }
-    &memory[from..to]
-}
-
 fn bytes_of<'a>(source: Source, message: &'a [u8], memory: &'a [u8]) -> &'a [u8]
     ensures { λ r. ⌜ now r ≡ bytesOf source (now (message .entry)) (now (memory .entry)) ⌝ }
 {
     match source {
         Source::Nothing => &message[0..0],
         Source::Message => message,
-        Source::Within(part) => part_of(memory, part),
+        Source::Within(part) => pieces::within(memory, part.from, part.to),
     }
 }
 

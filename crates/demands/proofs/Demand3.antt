@@ -10,7 +10,7 @@ use lib.Seq.{take-take}
 use lib.Dec.{leb, ltb}
 use borrow.Author.Tests.{ltb-true, leb-true, le-leb}
 use Rattle.pieces.specs.Memory.{part, pieceOf}
-use Rattle.pieces.proofs.Memory.{piece-order}
+use Rattle.pieces.proofs.Memory.{within-there, piece-order}
 use Rattle.block_value.specs.Value.{sizeOf}
 use Rattle.block_value.proofs.Laws.{size-most}
 use Rattle.negotiation.specs.Negotiation.{requestBlock}
@@ -36,7 +36,6 @@ use Rattle.block_table.proofs.TableFits.{row, row-length, row-unique, row-live}
 use Rattle.judge.specs.Limits.{configOk}
 use Rattle.block_handler.specs.Call.{World, Call, whatOk, call}
 use Rattle.answers.specs.Parts.{partOf, bodyOf}
-use Rattle.answers.proofs.Parted.{part-there}
 use Rattle.block_handler.proofs.Frame.{WorldFits, world-fits, key-within, Took, request-took, call-fits, other-keeps, clock-most}
 use Rattle.demands.specs.Demand3.{Handler, Seen, seen, run, callsOn, seenOn, Sent, callOn, block, Each, Fills, joined, Prompt, Rising, AllBytes, entryAt, HasLive, HasFree, NothingInPlain, HandsOn, Demand3}
 use Rattle.demands.proofs.OwnStep.{Meets, held-after, own-more, own-last, meets-first, meets-next}
@@ -65,7 +64,7 @@ shown-part : (m : List ℕ) (u i n : ℕ) → i * u + u ≤ length m → n ≤ u
 unfolding pieceOf part
 shown-part m u i n h k =
     let e : i * u + n - i * u ≡ n = omega arith in
-    sym (rw e at (part-there m (bytesFrom (i * u) n) (omega arith) (omega arith))) ∙ sym (take-take n u _ k)
+    sym (rw e at (within-there m (i * u) (i * u + n) (omega arith) (omega arith))) ∙ sym (take-take n u _ k)
 
 -- ---- between two calls on the key, and at one
 

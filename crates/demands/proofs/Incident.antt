@@ -9,6 +9,7 @@ use native.Mathlib.Omega.{arith}
 use lib.ListN.{length, take, drop}
 use lib.Seq.{drop-drop, take-at, drop-at, length-take-le}
 use Rattle.pieces.specs.Memory.{patch, part, pieceOf, putPiece}
+use Rattle.pieces.specs.Memory as memory
 use Rattle.splicing.specs.Splice.{splicedLength, spliceOf, pieceAfter}
 use Rattle.splicing.specs.Splice as pieces
 use Rattle.splicing.specs.declared.Splice.the-variants.{Body}
@@ -42,7 +43,6 @@ use Rattle.places.specs.Places as places
 use Rattle.block_handler.specs.Call.{call}
 use Rattle.judge.specs.Limits as judge
 use Rattle.block_handler.specs.Call as h
-use Rattle.answers.specs.Parts.{partOf}
 use Rattle.demands.specs.Demand3.{block, Demand3}
 use Rattle.demands.specs.Incident.{Carries, once, twice, TailKept, Story, StartsAfresh}
 use Rattle.demands.proofs.OwnStep.{room-agreed, held-after}
@@ -133,7 +133,7 @@ tail-kept c home at s u x l first last plain hx hl h fits hu f g =
 
 -- the same by whole calls, by computation
 pub story : Story
-unfolding h.call h.withinLimits judge.configOk judge.memoriesOk h.whatOk h.callAt keys.same keys.keyOk keys.keyOf keys.storedOk keys.stored keys.isNoKey entries.holds entries.entryOk entries.clash table.distinct table.tableOk entries.live entries.swept table.sweep places.place places.opened state.assembledOk state.cachedOk state.recordedOk state.stateOk state.isNothing block1.badForm block1.notNext block1.lengthMet block2.onward block1.taken block1.onSplice block1.block1Given step.onNegotiated step.stepRequest requestBlock readOf negotiated negotiation.within replyAt made largestPower sizeOf spliceOf pieces.spliced pieceAfter patch part pieceOf putPiece partOf
+unfolding h.call h.withinLimits judge.configOk judge.memoriesOk h.whatOk h.callAt keys.same keys.keyOk keys.keyOf keys.storedOk keys.stored keys.isNoKey entries.holds entries.entryOk entries.clash table.distinct table.tableOk entries.live entries.swept table.sweep places.place places.opened state.assembledOk state.cachedOk state.recordedOk state.stateOk state.isNothing block1.badForm block1.notNext block1.lengthMet block2.onward block1.taken block1.onSplice block1.block1Given step.onNegotiated step.stepRequest requestBlock readOf negotiated negotiation.within replyAt made largestPower sizeOf spliceOf pieces.spliced pieceAfter patch part pieceOf putPiece memory.within
 story =
     record {
       plain = (refl, (refl, refl));

@@ -126,7 +126,7 @@ zeros (suc n) zero = refl
 zeros (suc n) (suc i) = zeros n i
 
 zero-part : (n : ℕ) (p : Part) → getD {A = ℕ} (partOf (replicate n 0) p) 0 0 ≡ 0
-unfolding partOf memory.part
+unfolding memory.within memory.part
 zero-part n p =
     let m : List ℕ = replicate n 0 in
     let k : ℕ = p .to - p .from in

@@ -4,7 +4,7 @@ use script_state::State;
 use script_state::Step;
 ghost use Prim.Native.Nat.{_+_, _*_, _≤_};
 ghost use lib.ListN.{length};
-ghost use Rattle.script_text.specs.Text.{Put};
+ghost use Rattle.pieces.specs.Memory.{Put};
 ghost use Rattle.fresh_start.specs.Leaves.{fresh, Leaves};
 
 // A fresh start: an empty table, and memories of zeros.

@@ -5,7 +5,7 @@ use script_state::Step;
 ghost use mathlib.Core.Path.{_≡_};
 ghost use Prim.Native.Nat.{_+_, _*_, _≤_};
 ghost use lib.ListN.{length};
-ghost use Rattle.script_text.specs.Text.{Put};
+ghost use Rattle.pieces.specs.Memory.{Put};
 ghost use Rattle.fresh_start.specs.Leaves.{worldIn, Leaves};
 ghost use Rattle.line_runner.specs.Line.{stateShown, called, controlled, lineRun};
 

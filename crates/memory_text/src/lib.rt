@@ -2,7 +2,7 @@
 ghost use mathlib.Core.Path.{_≡_};
 ghost use Prim.Native.Nat.{_+_, _%_, _≤_};
 ghost use lib.ListN.{length};
-ghost use Rattle.script_text.specs.Text.{Put};
+ghost use Rattle.pieces.specs.Memory.{Put};
 ghost use Rattle.memory_text.specs.Memory.{timesPrime, fnvOf, wordText, memoriesText};
 
 fn wide(x: u8) -> u64
@@ -66,7 +66,7 @@ pub fn put_memories<'a>(out: &mut [u8], at: usize, upload: &'a [u8], response: &
     ensures { λ r. ⌜ r ≤ at + 35 ⌝ }
 {
     let k = put_word(out, at, fnv(upload));
-    let k = script_text::put_byte(out, k, b' ');
+    let k = pieces::put_byte(out, k, b' ');
     let k = put_word(out, k, fnv(response));
-    script_text::put_byte(out, k, b'\n')
+    pieces::put_byte(out, k, b'\n')
 }

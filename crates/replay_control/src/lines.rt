@@ -6,7 +6,7 @@ use script_fields::Number;
 ghost use mathlib.Core.Path.{_≡_};
 ghost use Prim.Native.Nat.{_+_, _*_, _≤_, min};
 ghost use lib.ListN.{length};
-ghost use Rattle.script_text.specs.Text.{Put};
+ghost use Rattle.pieces.specs.Memory.{Put};
 ghost use Rattle.replay_control.specs.Control.{startOf, controlOf, configText};
 
 // The length of a memory of sixteen pieces, each no longer than the longest that the limits allow.
@@ -96,5 +96,5 @@ pub fn put_config(out: &mut [u8], at: usize, n: u64) -> usize
     ensures { λ r. ⌜ r ≤ at + 50 ⌝ }
 {
     let k = script_text::put_decimal(out, at, n);
-    script_text::put(out, k, b" config - - -\n")
+    pieces::put(out, k, b" config - - -\n")
 }

@@ -7,7 +7,7 @@ use native.Mathlib.Omega.{arith}
 use lib.ListN.{length}
 use lib.Seq.{take-all}
 use lib.Dec.{eqb, leb}
-use Rattle.pieces.specs.Memory.{part}
+use Rattle.pieces.specs.Memory.{part, within}
 use Rattle.block_value.specs.declared.BlockValue.{BlockValue}
 use Rattle.negotiation.specs.declared.MaybeBlock.{MaybeBlock}
 use Rattle.negotiation.specs.declared.MaybeBlock.the-variants.{Absent, Given}
@@ -17,7 +17,7 @@ use Rattle.block_state.proofs.Tests.{by-cases}
 use Rattle.answers.specs.declared.Source.{Source}
 use Rattle.answers.specs.declared.Source.the-variants.{Nothing, Message, Within}
 use Rattle.answers.specs.declared.Shows.{Shows}
-use Rattle.answers.specs.Parts.{shows, shownBy, partOf, bytesOf, bodyOf, servedHead, servedChunk, sentBytes}
+use Rattle.answers.specs.Parts.{shows, shownBy, bytesOf, bodyOf, servedHead, servedChunk, sentBytes}
 use Rattle.replies.specs.declared.Block.{Block}
 use Rattle.replies.specs.declared.Reply.{Reply}
 use Rattle.replies.specs.Reply.{replyOf}
@@ -69,7 +69,7 @@ shown (First b chunk) = refl
 shown (Refused n) = refl
 
 pub found-bytes : (s : Source) (message memory : List ℕ) → bytesAt (foundIn s (length message) (length memory)) message memory ≡ bytesOf s message memory
-unfolding foundIn bytesAt partOf part
+unfolding foundIn bytesAt within part
 found-bytes Nothing message memory = refl
 found-bytes Message message memory = let all : length message - 0 ≡ length message = omega arith in rw all (take-all (length message) message (omega arith))
 found-bytes (Within p) message memory = by-cases (leb (p .from) (p .to) && leb (p .to) (length memory)) (λ e. rw e) (λ e. rw e)

@@ -8,9 +8,8 @@ use lib.Dec.{ltb}
 use lib.ListN.{length, take, drop, length-drop, length-append}
 use lib.Seq.{take-at, take-all, length-take-le}
 use borrow.Author.Tests.{ltb-false, eq-eqb, ne-eqb}
-use Rattle.pieces.specs.Memory.{patch}
+use Rattle.pieces.specs.Memory.{patch, Put}
 use Rattle.script.specs.Line.{cutAt, between, UpTo}
-use Rattle.script_text.specs.Text.{Put}
 use Rattle.script.proofs.Splitting.{next-field, last-field, some-field}
 use Rattle.script_state.specs.declared.State.{State}
 use Rattle.script_state.specs.Start.{header, begun}

@@ -6,7 +6,7 @@ ghost use mathlib.Core.Path.{_≡_};
 ghost use Prim.Native.Nat.{_≤_};
 ghost use lib.ListN.{length, take, drop};
 ghost use Rattle.script.specs.Line.{cutAt};
-ghost use Rattle.script_text.specs.Text.{Put};
+ghost use Rattle.pieces.specs.Memory.{Put};
 ghost use Rattle.script_state.specs.Start.{begun};
 ghost use Rattle.runner.specs.Lines.{afterLines, waitsAfterLines, afterLast, lastText, unended, standing, afterScript, waitsAfterScript};
 

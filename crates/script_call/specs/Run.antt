@@ -7,7 +7,7 @@ use Rattle.block_handler.specs.Call.{World, Done, call}
 use Rattle.block_handler.specs.Contract.{requestCall, responseCall}
 use Rattle.script.specs.Line.{Said, request, response, unreadable}
 use Rattle.answer_text.specs.Answer.{answerText, unreadableText}
-use Rattle.script_text.specs.Text.{Put}
+use Rattle.pieces.specs.Memory.{Put}
 use Rattle.script_shown.specs.Shown.{shownOf}
 
 -- What is printed of a call that is done: parts of the memories as the call left them.

@@ -11,7 +11,7 @@ ghost use lib.ListN.{length};
 ghost use Rattle.block_handler.specs.Contract.{world};
 ghost use Rattle.script.specs.Line.{InBuffers, saidBy};
 ghost use Rattle.answer_text.specs.Answer.{answerText};
-ghost use Rattle.script_text.specs.Text.{Put};
+ghost use Rattle.pieces.specs.Memory.{Put};
 ghost use Rattle.script_shown.specs.Shown.{shownOf};
 ghost use Rattle.script_call.specs.Run.{Runs};
 

@@ -5,7 +5,7 @@ use Prim.Native.Nat.{ℕ, _-_, _≤_}
 use native.Mathlib.Omega.{arith}
 use lib.Dec.{leb}
 use lib.ListN.{length, length-take, length-drop}
-use Rattle.pieces.specs.Memory.{part}
+use Rattle.pieces.specs.Memory.{part, within}
 use Rattle.block_state.specs.declared.Part.{Part}
 use Rattle.block_state.specs.declared.Answer.{Answer}
 use Rattle.block_state.specs.declared.Answer.the-variants.{Continue, TooLarge, Handed, Pass, Served, Plain, Whole, First, Refused}
@@ -13,7 +13,7 @@ use Rattle.answers.specs.Parts.{partOf}
 use Rattle.script_shown.specs.Shown.{shownOf}
 
 part-short : (m : List ℕ) (p : Part) → length (partOf m p) ≤ length m
-unfolding partOf part
+unfolding within part
 part-short m p = go (leb (p .from) (p .to) && leb (p .to) (length m))
   where
     go : (b : Bool) → length (cond b (part m (p .from) (p .to - p .from)) []) ≤ length m

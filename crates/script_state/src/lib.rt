@@ -6,8 +6,7 @@ ghost use Prim.Native.Nat.{_+_, _-_, _%_, _^_, _≤_, min};
 ghost use mathlib.Core.Bool.{cond};
 ghost use lib.Dec.{ltb};
 ghost use lib.ListN.{length};
-ghost use Rattle.pieces.specs.Memory.{patch, part};
-ghost use Rattle.script_text.specs.Text.{Put};
+ghost use Rattle.pieces.specs.Memory.{patch, part, Put};
 ghost use Rattle.script_state.specs.Start.{scriptConfig, header, begun};
 
 pub mod buffers;
@@ -50,7 +49,7 @@ pub fn start(out: &mut [u8]) -> Step
     ensures { λ r. ⌜ Put (now (out .entry)) 0 header (now (out .exit)) (r .at) ⌝ }
     ensures { λ r. ⌜ r .at ≤ 65536 ⌝ }
 {
-    let at = script_text::put(out, 0, b"line answer block1 block2 bytes\n");
+    let at = pieces::put(out, 0, b"line answer block1 block2 bytes\n");
     let table = block_table::fresh();
     let config = script_config();
     Step {

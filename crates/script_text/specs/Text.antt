@@ -1,19 +1,10 @@
 -- What is written: decimals, hex and block values.
-use Prim.Native.Nat.{ℕ, zero, suc, _+_, _/_, _%_, _≤_}
-use mathlib.Core.Path.{_≡_}
+use Prim.Native.Nat.{ℕ, zero, suc, _+_, _/_, _%_}
 use mathlib.Core.Bool.{Bool, cond}
 use mathlib.Core.List.{List, [], _∷_, _++_}
 use lib.Dec.{ltb}
-use lib.ListN.{length}
-use Rattle.pieces.specs.Memory.{patch}
 use Rattle.block_value.specs.Value.{blockSize}
 use Rattle.block_value.specs.declared.BlockValue.{BlockValue}
-
--- These bytes were written at `at`, where there was room for them, and nothing else; the next go to r.
-pub record Put (m : List ℕ) (at : ℕ) (bytes m′ : List ℕ) (r : ℕ) : Type 0 where
-  pub room : at + length bytes ≤ length m
-  pub is : m′ ≡ patch m at bytes
-  pub to : r ≡ at + length bytes
 
 -- The decimal digits of n, at most as many as the first number says.
 unfoldable pub decimalFrom : ℕ → ℕ → List ℕ

@@ -1,26 +1,10 @@
 // Text put into a lent buffer at an index; each answers the next index.
 use block_value::BlockValue;
-ghost use mathlib.Core.List.{_∷_, []};
 ghost use mathlib.Core.Path.{_≡_};
 ghost use Prim.Native.Nat.{_+_, _*_, _%_, _<_, _≤_};
 ghost use lib.ListN.{length};
-ghost use Rattle.script_text.specs.Text.{Put, decimal, hexDigit, hex, shown, blockText, digitOf};
-
-pub fn put(out: &mut [u8], at: usize, bytes: &[u8]) -> usize
-    requires { ⌜ at + length (now bytes) ≤ length (now out) ⌝ }
-    ensures { λ r. ⌜ Put (now (out .entry)) at (now (bytes .entry)) (now (out .exit)) r ⌝ }
-{
-    pieces::copy_in(out, at, bytes);
-    at + bytes.len()
-}
-
-pub fn put_byte(out: &mut [u8], at: usize, byte: u8) -> usize
-    requires { ⌜ at < length (now out) ⌝ }
-    ensures { λ r. ⌜ Put (now (out .entry)) at (byte ∷ []) (now (out .exit)) r ⌝ }
-{
-    out[at] = byte;
-    at + 1
-}
+ghost use Rattle.pieces.specs.Memory.{Put};
+ghost use Rattle.script_text.specs.Text.{decimal, hexDigit, hex, shown, blockText, digitOf};
 
 fn last_digit(n: u64) -> u8
     ensures { λ r. ⌜ r ≡ 48 + n % 10 ⌝ }
@@ -35,10 +19,10 @@ pub fn put_decimal(out: &mut [u8], at: usize, n: u64) -> usize
     ensures { λ r. ⌜ r ≤ at + 20 ⌝ }
 {
     if n < 10 {
-        return put_byte(out, at, last_digit(n));
+        return pieces::put_byte(out, at, last_digit(n));
     }
     let next = put_decimal(out, at, n / 10);
-    put_byte(out, next, last_digit(n))
+    pieces::put_byte(out, next, last_digit(n))
 }
 
 fn hex_digit(d: u8) -> u8
@@ -75,7 +59,7 @@ pub fn put_shown(out: &mut [u8], at: usize, bytes: &[u8]) -> usize
     ensures { λ r. ⌜ r ≤ at + 2 * length (now (bytes .entry)) + 1 ⌝ }
 {
     if bytes.len() == 0 {
-        return put_byte(out, at, b'.');
+        return pieces::put_byte(out, at, b'.');
     }
     put_hex(out, at, bytes)
 }
@@ -93,8 +77,8 @@ pub fn put_block(out: &mut [u8], at: usize, block: BlockValue) -> usize
     ensures { λ r. ⌜ r ≤ at + 50 ⌝ }
 {
     let k = put_decimal(out, at, block.num as u64);
-    let k = put_byte(out, k, b'/');
-    let k = put_byte(out, k, digit_of(block.more));
-    let k = put_byte(out, k, b'/');
+    let k = pieces::put_byte(out, k, b'/');
+    let k = pieces::put_byte(out, k, digit_of(block.more));
+    let k = pieces::put_byte(out, k, b'/');
     put_decimal(out, k, block_value::size(block) as u64)
 }

@@ -8,8 +8,9 @@ use lib.Dec.{ltb}
 use lib.ListN.{length, getD, drop, length-append, drop-of-length-le}
 use borrow.Author.Tests.{lt-ltb, le-ltb}
 use Rattle.script.specs.Line.{Bytes}
-use Rattle.script_text.specs.Text.{Put, none}
-use Rattle.script_text.proofs.Puts.{put-none, put-then, put-as, put-length}
+use Rattle.pieces.specs.Memory.{Put}
+use Rattle.script_text.specs.Text.{none}
+use Rattle.pieces.proofs.Puts.{put-none, put-then, put-as, put-length}
 use Rattle.entries.specs.declared.Entry.{Entry}
 use Rattle.keys.proofs.Turns.{drop-step}
 use Rattle.state_text.specs.State.{entryText, usedTexts, continued, joined, entriesText, nextText}

@@ -11,7 +11,8 @@ ghost use mathlib.Core.Path.{_≡_};
 ghost use Prim.Native.Nat.{_+_, _≤_};
 ghost use lib.ListN.{length, take};
 ghost use lib.Dec.{ltb};
-ghost use Rattle.script_text.specs.Text.{Put, hex};
+ghost use Rattle.pieces.specs.Memory.{Put};
+ghost use Rattle.script_text.specs.Text.{hex};
 ghost use Rattle.state_text.specs.State.{assembledText, cachedText, recordedText, whoText, whatText, entryText, nextText, entriesText, stateText};
 
 fn size(x: u8) -> usize
@@ -43,7 +44,7 @@ fn put_assembled(out: &mut [u8], at: usize, assembled: Assembled) -> usize
     ensures { λ r. ⌜ r ≤ at + 50 ⌝ }
 {
     let k = script_text::put_decimal(out, at, assembled.len as u64);
-    let k = script_text::put_byte(out, k, b',');
+    let k = pieces::put_byte(out, k, b',');
     script_text::put_decimal(out, k, assembled.exponent as u64)
 }
 
@@ -53,10 +54,10 @@ fn put_cached(out: &mut [u8], at: usize, cached: Cached) -> usize
     ensures { λ r. ⌜ r ≤ at + 50 ⌝ }
 {
     if !cached.held {
-        return script_text::put_byte(out, at, b'-');
+        return pieces::put_byte(out, at, b'-');
     }
     let k = script_text::put_decimal(out, at, cached.head as u64);
-    let k = script_text::put_byte(out, k, b'+');
+    let k = pieces::put_byte(out, k, b'+');
     script_text::put_decimal(out, k, cached.payload as u64)
 }
 
@@ -66,7 +67,7 @@ fn put_recorded(out: &mut [u8], at: usize, recorded: Recorded) -> usize
     ensures { λ r. ⌜ r ≤ at + 50 ⌝ }
 {
     if !recorded.given {
-        return script_text::put_byte(out, at, b'-');
+        return pieces::put_byte(out, at, b'-');
     }
     let block = BlockValue {
         num: recorded.num,
@@ -84,9 +85,9 @@ fn put_who(out: &mut [u8], at: usize, i: u64, key: Key, touched: u64) -> usize
 {
     let bytes = key.bytes;
     let k = script_text::put_decimal(out, at, i);
-    let k = script_text::put_byte(out, k, b',');
+    let k = pieces::put_byte(out, k, b',');
     let k = put_key(out, k, bytes, size(key.len));
-    let k = script_text::put_byte(out, k, b',');
+    let k = pieces::put_byte(out, k, b',');
     script_text::put_decimal(out, k, touched)
 }
 
@@ -100,9 +101,9 @@ fn put_what(out: &mut [u8], at: usize, state: BlockState) -> usize
     let cached = state.cached;
     let recorded = state.recorded;
     let k = put_assembled(out, at, assembled);
-    let k = script_text::put_byte(out, k, b',');
+    let k = pieces::put_byte(out, k, b',');
     let k = put_cached(out, k, cached);
-    let k = script_text::put_byte(out, k, b',');
+    let k = pieces::put_byte(out, k, b',');
     put_recorded(out, k, recorded)
 }
 
@@ -114,7 +115,7 @@ fn put_entry(out: &mut [u8], at: usize, i: u64, e: Entry) -> usize
     let key = e.key;
     let state = e.state;
     let k = put_who(out, at, i, key, e.touched);
-    let k = script_text::put_byte(out, k, b',');
+    let k = pieces::put_byte(out, k, b',');
     put_what(out, k, state)
 }
 
@@ -128,7 +129,7 @@ fn put_next(out: &mut [u8], base: usize, at: usize, i: u64, e: Entry) -> usize
         return at;
     }
     if base < at {
-        let k = script_text::put_byte(out, at, b';');
+        let k = pieces::put_byte(out, at, b';');
         return put_entry(out, k, i, e);
     }
     put_entry(out, at, i, e)
@@ -147,7 +148,7 @@ fn put_entries(out: &mut [u8], at: usize, entries: [Entry; 16]) -> usize
         i += 1;
     }
     if k == at {
-        return script_text::put_byte(out, k, b'-');
+        return pieces::put_byte(out, k, b'-');
     }
     k
 }
@@ -167,10 +168,10 @@ pub fn put_state<'a>(
 {
     let entries = table.entries;
     let k = script_text::put_decimal(out, at, n);
-    let k = script_text::put(out, k, b" state ");
+    let k = pieces::put(out, k, b" state ");
     let k = script_text::put_decimal(out, k, table.clock);
-    let k = script_text::put_byte(out, k, b' ');
+    let k = pieces::put_byte(out, k, b' ');
     let k = put_entries(out, k, entries);
-    let k = script_text::put_byte(out, k, b' ');
+    let k = pieces::put_byte(out, k, b' ');
     memory_text::put_memories(out, k, upload, response)
 }

@@ -1,5 +1,5 @@
 use Rattle.answer_fields.specs.Fields.{block1Text}
-use Rattle.script_text.proofs.Puts.{put-as}
+use Rattle.pieces.proofs.Puts.{put-as}
 use mathlib.Core.Path.{sym, ap}
 use native.Mathlib.Omega.{arith}
 use borrow.Author.Needs.{needs}

@@ -1,6 +1,6 @@
 use Rattle.block_state.specs.declared.Answer.{Answer}
 use Rattle.answer_fields.specs.Fields.{bytesText}
-use Rattle.script_text.proofs.Puts.{put-as}
+use Rattle.pieces.proofs.Puts.{put-as}
 use mathlib.Core.Path.{sym, ap}
 use native.Mathlib.Omega.{arith}
 use borrow.Author.Needs.{needs}

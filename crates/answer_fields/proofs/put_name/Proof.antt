@@ -1,5 +1,5 @@
 use Rattle.answer_fields.specs.Fields.{nameOf}
-use Rattle.script_text.proofs.Puts.{put-as, put-then}
+use Rattle.pieces.proofs.Puts.{put-as, put-then}
 use mathlib.Core.Path.{sym, ap}
 use native.Mathlib.Omega.{arith}
 use borrow.Author.Needs.{needs}

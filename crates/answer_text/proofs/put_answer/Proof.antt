@@ -1,4 +1,4 @@
-use Rattle.script_text.proofs.Puts.{put-then, put-length}
+use Rattle.pieces.proofs.Puts.{put-then, put-length}
 use Rattle.answer_text.specs.Answer.{answerText}
 use native.Mathlib.Omega.{arith}
 use borrow.Author.Needs.{needs}

@@ -1,4 +1,4 @@
-use Rattle.script_text.proofs.Puts.{put-then}
+use Rattle.pieces.proofs.Puts.{put-then}
 use Rattle.answer_text.specs.Answer.{unreadableText}
 use native.Mathlib.Omega.{arith}
 use borrow.Author.Needs.{needs}

@@ -1,5 +1,5 @@
 use Rattle.script_shown.proofs.Showing.{shown-short}
-use Rattle.script_text.proofs.Puts.{put-as}
+use Rattle.pieces.proofs.Puts.{put-as}
 use Rattle.answer_text.specs.Answer.{answerText}
 use Prim.Native.Nat.{ℕ}
 use mathlib.Core.List.{List}

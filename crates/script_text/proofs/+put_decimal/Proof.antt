@@ -1,4 +1,5 @@
-use Rattle.script_text.proofs.Puts.{put-as, put-then, put-bound, one-digit, last-digit, one-longer, decimal-length}
+use Rattle.pieces.proofs.Puts.{put-as, put-then, put-bound}
+use Rattle.script_text.proofs.Laws.{one-digit, last-digit, one-longer, decimal-length}
 use borrow.Author.Needs.{needs}
 use native.Mathlib.Omega.{arith}
 use Prim.Native.Nat.{ℕ, _<_}
@@ -8,7 +9,7 @@ use Rattle.script_text.proofs.put_decimal.Reads as put-decimal
 use Rattle.script_text.proofs.put_decimal.Kinds as put-decimal-kinds
 use Rattle.script_text.proofs.+put_decimal.Lts-put_decimal as put-decimal-lts
 use Rattle.script_text.proofs.last_digit.Reads as last-digit-reads
-use Rattle.script_text.proofs.put_byte.Reads as put-byte-reads
+use Rattle.pieces.proofs.put_byte.Reads as put-byte-reads
 use Rattle.script_text.proofs.+put_decimal.{statement}
 use Rattle.script_text.proofs.+put_decimal.Tie.{close}
 

@@ -1,5 +1,5 @@
-use Rattle.script_text.proofs.Puts.{block-written}
-use Rattle.script_text.proofs.Puts.{put-as, put-then, put-bound, block-length}
+use Rattle.pieces.proofs.Puts.{put-as, put-then, put-bound}
+use Rattle.script_text.proofs.Laws.{block-length, block-written}
 use Rattle.script_text.specs.Text.{blockText}
 use native.Mathlib.Omega.{arith}
 use borrow.Author.Needs.{needs}

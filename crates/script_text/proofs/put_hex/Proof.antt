@@ -1,6 +1,6 @@
 use native.Mathlib.Omega.{arith}
 use borrow.Author.Needs.{needs}
-use Rattle.script_text.proofs.Puts.{Hexed, hexed-start, hexed-turn, hexed-done}
+use Rattle.script_text.proofs.Laws.{Hexed, hexed-start, hexed-turn, hexed-done}
 use lib.ListN.{length, length-set}
 use Prim.Native.Nat.{_-_}
 use Rattle.script_text.proofs.put_hex.Statement.{statement}

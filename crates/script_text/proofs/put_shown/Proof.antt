@@ -1,5 +1,6 @@
 use native.Mathlib.Omega.{arith}
-use Rattle.script_text.proofs.Puts.{put-as, put-bound, shown-none, shown-some, shown-length}
+use Rattle.pieces.proofs.Puts.{put-as, put-bound}
+use Rattle.script_text.proofs.Laws.{shown-none, shown-some, shown-length}
 use borrow.Author.Needs.{needs}
 use Rattle.script_text.proofs.put_shown.Statement.{statement}
 use Rattle.script_text.proofs.put_shown.Tie as tie

@@ -1,4 +1,4 @@
-use Rattle.script_text.proofs.Puts.{put-then, put-as}
+use Rattle.pieces.proofs.Puts.{put-then, put-as}
 use Rattle.state_text.specs.State.{cachedText}
 use borrow.Author.Tests.{not-true, not-false}
 use borrow.Author.Needs.{needs}

@@ -4,7 +4,7 @@ use native.Mathlib.Nat.{sub-zero}
 use lib.ListN.{take}
 use lib.Seq.{take-all}
 use Rattle.script_text.specs.Text.{hex}
-use Rattle.script_text.proofs.Puts.{put-as}
+use Rattle.pieces.proofs.Puts.{put-as}
 use borrow.Author.Needs.{needs}
 use Rattle.state_text.proofs.put_key.Statement.{statement}
 use Rattle.state_text.proofs.put_key.Tie as tie

@@ -1,4 +1,4 @@
-use Rattle.script_text.proofs.Puts.{put-then, put-as, put-none}
+use Rattle.pieces.proofs.Puts.{put-then, put-as, put-none}
 use Rattle.state_text.specs.State.{nextText}
 use borrow.Author.Tests.{not-true, not-false, lt-ltb, le-ltb}
 use borrow.Author.Needs.{needs}

@@ -1,4 +1,4 @@
-use Rattle.script_text.proofs.Puts.{put-then}
+use Rattle.pieces.proofs.Puts.{put-then}
 use Rattle.state_text.specs.State.{stateText}
 use borrow.Author.Needs.{needs}
 use Rattle.state_text.proofs.put_state.Statement.{statement}

@@ -23,8 +23,8 @@ enum-told-2 c = search needs
 enum-known-source : tie.Need-enum-known-source
 enum-known-source c = search needs
 
-part-of-requires : tie.Need-part-of-requires
-part-of-requires c κs = search needs
+within-requires : tie.Need-within-requires
+within-requires c κs = search needs
 
 returns : tie.Need-returns
 returns c = search needs
@@ -33,7 +33,7 @@ returns-2 : tie.Need-returns-2
 returns-2 c = search needs
 
 returns-3 : tie.Need-returns-3
-returns-3 c = c .part-of .ensures ∙ sym (ap (λ (s : Source). bytesOf s (c .before .before .before .before .before .before .args .message .now) (c .before .before .before .before .before .before .args .memory .now)) (c .before .before .source .given .1))
+returns-3 c = c .within .ensures ∙ sym (ap (λ (s : Source). bytesOf s (c .before .before .before .before .before .before .args .message .now) (c .before .before .before .before .before .before .args .memory .now)) (c .before .before .source .given .1))
 
 pub bytes-of-spec : {M : Type 1} → statement M
 bytes-of-spec =
@@ -45,7 +45,7 @@ bytes-of-spec =
     part-result-end
     enum-told-2
     enum-known-source
-    part-of-requires
+    within-requires
     returns
     returns-2
     returns-3)

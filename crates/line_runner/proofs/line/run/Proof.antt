@@ -3,7 +3,7 @@ use native.Mathlib.Omega.{arith}
 use Prim.Native.Nat.{_-_}
 use Rattle.fresh_start.proofs.Fronts.{leaves-fronts}
 use Rattle.line_runner.proofs.Leaving.{world-by, from-start, lent-length}
-use Rattle.script_text.proofs.Puts.{put-as}
+use Rattle.pieces.proofs.Puts.{put-as}
 use Rattle.script.specs.Line.{lineOf}
 use Rattle.block_handler.specs.Call.{World}
 use Rattle.script_call.specs.Run.{worldAfter, textAfter}

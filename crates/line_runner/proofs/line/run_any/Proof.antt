@@ -1,6 +1,6 @@
 use mathlib.Core.Path.{_≡_, refl, sym, ap, _∙_}
 use native.Mathlib.Omega.{arith}
-use Rattle.script_text.proofs.Puts.{put-as}
+use Rattle.pieces.proofs.Puts.{put-as}
 use Rattle.replay_control.specs.declared.Control.{Control}
 use Rattle.fresh_start.specs.Leaves.{After, worldIn}
 use Rattle.line_runner.specs.Line.{controlled}

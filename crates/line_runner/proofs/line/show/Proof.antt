@@ -2,7 +2,7 @@ use mathlib.Core.Path.{_≡_, refl, sym, ap, _∙_}
 use native.Mathlib.Omega.{arith}
 use Prim.Native.Nat.{_-_}
 use Rattle.line_runner.proofs.Leaving.{world-by, from-start}
-use Rattle.script_text.proofs.Puts.{put-as}
+use Rattle.pieces.proofs.Puts.{put-as}
 use Rattle.block_handler.specs.Call.{World}
 use Rattle.state_text.specs.State.{stateText}
 use borrow.Author.Needs.{needs}

@@ -1,4 +1,4 @@
-use Rattle.script_text.proofs.Puts.{put-then}
+use Rattle.pieces.proofs.Puts.{put-then}
 use Rattle.replay_control.specs.Control.{configText}
 use borrow.Author.Needs.{needs}
 use Rattle.replay_control.proofs.lines.put_config.Statement.{statement}

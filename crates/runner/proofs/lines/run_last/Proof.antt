@@ -1,6 +1,6 @@
 use mathlib.Core.Path.{_≡_, refl, sym, ap, _∙_}
 use native.Mathlib.Omega.{arith}
-use Rattle.script_text.proofs.Puts.{put-as, put-none}
+use Rattle.pieces.proofs.Puts.{put-as, put-none}
 use Rattle.runner.specs.Lines.{standing}
 use Rattle.runner.proofs.Lining.{stands, none-last, some-last}
 use borrow.Author.Needs.{needs}

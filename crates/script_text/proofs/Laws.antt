@@ -1,4 +1,4 @@
--- Writes one after another are one write, and the laws of what is written. Assumes nothing.
+-- The laws of what is written. Assumes nothing.
 use mathlib.Core.Path.{_≡_, refl, sym, ap, _∙_}
 use mathlib.Core.Bool.{Bool, true, false, cond}
 use mathlib.Core.List.{List, [], _∷_, _++_}
@@ -10,30 +10,11 @@ use lib.Dec.{ltb}
 use lib.ListN.{length, getD, set, take, length-append}
 use lib.Seq.{take-suc, take-all}
 use borrow.Author.Tests.{lt-ltb, le-ltb}
-use Rattle.pieces.specs.Memory.{patch}
-use Rattle.pieces.proofs.Memory.{patch-none, patch-after, set-patch, length-patch}
+use Rattle.pieces.specs.Memory.{Put}
+use Rattle.pieces.proofs.Puts.{put-length, put-none, put-one, put-then}
 use Rattle.block_value.specs.Value.{blockSize}
 use Rattle.block_value.specs.declared.BlockValue.{BlockValue}
-use Rattle.script_text.specs.Text.{Put, decimalFrom, decimal, hexDigit, hex, shown, digitOf, blockText}
-
-pub put-length : {m : List ℕ} {at : ℕ} {b m′ : List ℕ} {r : ℕ} → Put m at b m′ r → length m′ ≡ length m
-put-length {m} {at} {b} p = ap length (p .is) ∙ length-patch m at b (p .room)
-
-pub put-none : (m : List ℕ) (at : ℕ) → at ≤ length m → Put m at [] m at
-put-none m at h = record { room = omega arith; is = sym (patch-none m at); to = omega arith }
-
-pub put-one : (m : List ℕ) (at x : ℕ) → at < length m → Put m at (x ∷ []) (set m at x) (at + 1)
-put-one m at x h = record { room = omega arith; is = set-patch m at x h; to = omega arith }
-
-pub put-then : {m : List ℕ} {at : ℕ} {b m₁ : List ℕ} {k : ℕ} {c m₂ : List ℕ} {r : ℕ} → Put m at b m₁ k → Put m₁ k c m₂ r → Put m at (b ++ c) m₂ r
-put-then {m} {at} {b} {m₁} {k} {c} {m₂} {r} p q =
-    let l : length m₁ ≡ length m = put-length p in
-    let n : length (b ++ c) ≡ length b + length c = length-append b c in
-    record {
-      room = omega (arith, q .room, p .to);
-      is = q .is ∙ ap (λ (j : ℕ). patch m₁ j c) (p .to) ∙ ap (λ (w : List ℕ). patch w (at + length b) c) (p .is) ∙ patch-after m at b c (omega (arith, q .room, p .to));
-      to = omega (arith, q .to, p .to);
-    }
+use Rattle.script_text.specs.Text.{decimalFrom, decimal, hexDigit, hex, shown, digitOf, blockText}
 
 -- ---- decimals
 
@@ -63,6 +44,18 @@ decimal-one n h = let e : n % 10 ≡ n = omega arith in rw (e, lt-ltb n 10 h)
 pub decimal-more : (n : ℕ) → 10 ≤ n → n < 2 ^ 64 → decimal n ≡ decimal (n / 10) ++ ((48 + n % 10) ∷ [])
 unfolding decimal decimalFrom
 decimal-more n h k = rw (le-ltb n 10 h) (ap (λ (l : List ℕ). l ++ ((48 + n % 10) ∷ [])) (sym (enough 18 (n / 10) (omega arith))))
+
+pub one-digit : (n d : ℕ) → n < 10 → d ≡ 48 + n % 10 → d ∷ [] ≡ decimal n
+one-digit n d h e = rw e (sym (decimal-one n h))
+
+pub last-digit : (n d : ℕ) → 10 ≤ n → n < 2 ^ 64 → d ≡ 48 + n % 10 → decimal (n / 10) ++ (d ∷ []) ≡ decimal n
+last-digit n d h k e = rw e (sym (decimal-more n h k))
+
+pub one-long : (n : ℕ) → n < 10 → length (decimal n) ≡ 1
+one-long n h = rw (decimal-one n h)
+
+pub one-longer : (n : ℕ) → 10 ≤ n → n < 2 ^ 64 → length (decimal n) ≡ length (decimal (n / 10)) + 1
+one-longer n h k = rw (decimal-more n h k, length-append (decimal (n / 10)) ((48 + n % 10) ∷ []))
 
 -- ---- hex
 
@@ -108,26 +101,6 @@ pub hexed-done : (m : List ℕ) (at : ℕ) (bytes m′ : List ℕ) (i k : ℕ) �
 hexed-done m at bytes m′ i k h l =
     let e : take i bytes ≡ bytes = take-all i bytes l in
     (rw e at (h .put), omega (arith, h .place, h .within))
-
--- ---- what is written, by another name, and how far it reaches
-
-pub put-as : {m : List ℕ} {at : ℕ} {b b′ m′ : List ℕ} {r : ℕ} → Put m at b m′ r → b ≡ b′ → Put m at b′ m′ r
-put-as p e = rw (← e) p
-
-pub put-bound : {m : List ℕ} {at : ℕ} {b m′ : List ℕ} {r : ℕ} (k : ℕ) → Put m at b m′ r → length b ≤ k → r ≤ at + k
-put-bound k p h = omega (arith, p .to)
-
-pub one-digit : (n d : ℕ) → n < 10 → d ≡ 48 + n % 10 → d ∷ [] ≡ decimal n
-one-digit n d h e = rw e (sym (decimal-one n h))
-
-pub last-digit : (n d : ℕ) → 10 ≤ n → n < 2 ^ 64 → d ≡ 48 + n % 10 → decimal (n / 10) ++ (d ∷ []) ≡ decimal n
-last-digit n d h k e = rw e (sym (decimal-more n h k))
-
-pub one-long : (n : ℕ) → n < 10 → length (decimal n) ≡ 1
-one-long n h = rw (decimal-one n h)
-
-pub one-longer : (n : ℕ) → 10 ≤ n → n < 2 ^ 64 → length (decimal n) ≡ length (decimal (n / 10)) + 1
-one-longer n h k = rw (decimal-more n h k, length-append (decimal (n / 10)) ((48 + n % 10) ∷ []))
 
 -- ---- bytes that are shown
 

@@ -1,0 +1,101 @@
+-- `option_table::length_allowed` meets its contract. The loop's invariant: each number that it passed is below the one that is looked for. Where
+-- it stops at a larger one, all that are left are larger too, since the numbers rise. Assumes nothing.
+use mathlib.Core.Path.{_≡_, sym, _∙_}
+use mathlib.Core.Logic.{⊎-elim}
+use Prim.Native.Nat.{ℕ, _-_, _≤_, _<_}
+use native.Mathlib.Omega.{arith}
+use lib.ListN.{getD}
+use borrow.Author.Count.{below-none, below-more}
+use borrow.Author.Needs.{needs}
+use borrow.Author.Tests.{ltb-true, ltb-false}
+use Rattle.option_table.specs.Options.{table, numbers, allowedOf}
+use Rattle.option_table.proofs.Rising.{not-there}
+use Rattle.option_table.proofs.LookUp.{found, missing}
+use Rattle.option_table.proofs.length_allowed.Statement.{statement}
+use Rattle.option_table.proofs.length_allowed.Tie as tie
+
+abbrev Inv-loop : tie.InvT-loop
+Inv-loop n len array i₀ i = (i ≤ 19) × ((k : ℕ) → k < i → getD (numbers table) k 0 < n)
+
+abbrev μ-loop : tie.MeasureT-loop
+μ-loop n len array i₀ i = 19 - i
+
+loop-holds : tie.Need-loop-holds Inv-loop μ-loop
+loop-holds c = (search needs, below-none _)
+
+mul-if1 : tie.Need-mul-if1 Inv-loop μ-loop
+mul-if1 c = search needs
+
+array-read-if1 : tie.Need-array-read-if1 Inv-loop μ-loop
+array-read-if1 c = search needs
+
+add-i : tie.Need-add-i Inv-loop μ-loop
+add-i c = search needs
+
+loop-less : tie.Need-loop-less Inv-loop μ-loop
+loop-less c = search needs
+
+loop-again : tie.Need-loop-again Inv-loop μ-loop
+loop-again c = (search needs, below-more _ _ (c .before .before .loop .inv .1) (ltb-true _ _ (c .if1 .taken)))
+
+returns : tie.Need-returns Inv-loop μ-loop
+unfolding allowedOf
+returns c = sym (missing table _ _ (not-there _ _ (c .before .before .loop .inv .1) (λ h. absurd (omega arith))))
+
+mul-if3 : tie.Need-mul-if3 Inv-loop μ-loop
+mul-if3 c = search needs
+
+array-read-if3 : tie.Need-array-read-if3 Inv-loop μ-loop
+array-read-if3 c = search needs
+
+returns-2 : tie.Need-returns-2 Inv-loop μ-loop
+unfolding allowedOf
+returns-2 c =
+    sym
+    (missing table _ _
+    (not-there _ _ (c .before .before .before .loop .inv .1)
+    (λ h. ⊎-elim (λ w. omega (arith, ltb-false)) (λ w. absurd (omega arith)) (c .before .before .loop-test .came))))
+
+mul-within : tie.Need-mul-within Inv-loop μ-loop
+mul-within c = search needs
+
+array-read-within : tie.Need-array-read-within Inv-loop μ-loop
+array-read-within c = search needs
+
+mul-within-2 : tie.Need-mul-within-2 Inv-loop μ-loop
+mul-within-2 c = search needs
+
+array-read-within-2 : tie.Need-array-read-within-2 Inv-loop μ-loop
+array-read-within-2 c = search needs
+
+within-requires : tie.Need-within-requires Inv-loop μ-loop
+within-requires c κs = search needs
+
+returns-3 : tie.Need-returns-3 Inv-loop μ-loop
+unfolding allowedOf
+returns-3 c =
+    c .within .ensures
+    ∙ sym (found table _ _ (c .before .before .before .before .loop .i) (omega arith) (c .before .before .before .before .loop .inv .1) (c .before .if3 .left))
+
+pub length-allowed-spec : {M : Type 1} → statement M
+length-allowed-spec =
+    tie.close
+    (tie.spec
+    Inv-loop
+    μ-loop
+    loop-holds
+    mul-if1
+    array-read-if1
+    add-i
+    loop-less
+    loop-again
+    returns
+    mul-if3
+    array-read-if3
+    returns-2
+    mul-within
+    array-read-within
+    mul-within-2
+    array-read-within-2
+    within-requires
+    returns-3)
