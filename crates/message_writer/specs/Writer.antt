@@ -64,10 +64,11 @@ pub record Writes (out : List ℕ) (g : Given) (out′ : List ℕ) (r : Writing)
   pub answer : r ≡ writingOf (length out) g
   pub output : out′ ≡ outputOf out g
 
+-- How many bytes an option takes.
 abbrev pub optionLength : ℕ → ℕ → ℕ
 optionLength delta len = length (optionHead delta len) + len
 
--- An option of this number after one of the number `before`, whose value has so many of the bytes left, has an encoding and fits.
+-- One option, after one of the number `before`, has an encoding, has its bytes among so many values, and fits the room.
 unfoldable pub optionFits : ℕ → ℕ → ℕ → ℕ → ℕ → Bool
 optionFits room before number len values =
     leb before number && leb number 65535 && leb len 65804 && leb len values && leb (optionLength (number - before) len) room
@@ -77,7 +78,7 @@ abbrev pub roomAfterOption : ℕ → ℕ → ℕ → ℕ → ℕ → Room
 roomAfterOption room before number len values =
     cond (optionFits room before number len values) (Left (room - optionLength (number - before) len)) Small
 
--- All options, the first after one of the number `before`, have an encoding and fit.
+-- All options, the first after one of the number `before`, have an encoding and fit the room.
 unfoldable pub optionsFit : ℕ → ℕ → List ℕ → List ℕ → List ℕ → Bool
 optionsFit before room numbers lengths values =
     describes numbers lengths values

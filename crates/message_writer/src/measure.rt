@@ -103,7 +103,7 @@ fn empty_ok(code: u8, token: usize, options: usize, payload: usize) -> bool
     payload == 0
 }
 
-// A message ID of 16 bits is always taken.
+// It asks for no message ID: each of 16 bits has an encoding.
 pub fn takes<'a>(
     room: usize,
     message_type: u8,
