@@ -4,3 +4,4 @@ pub mod Measures
 pub mod Ahead
 pub mod Taken
 pub mod Refuses
+pub mod RoundTrip

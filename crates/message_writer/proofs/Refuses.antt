@@ -34,7 +34,7 @@ written-test : (b : Bool) (n m : ℕ) → Written n ≡ cond b (Written m) (Refu
 written-test true n m e = (refl, cc)
 written-test false n m e = let z : _≡_ {A = ℕ} 0 1 = cc in absurd (omega arith)
 
-refused-test : (b : Bool) (k m : ℕ) → Refused k ≡ cond b (Written m) (Refused 21) → (b ≡ false) × (k ≡ 21)
+pub refused-test : (b : Bool) (k m : ℕ) → Refused k ≡ cond b (Written m) (Refused 21) → (b ≡ false) × (k ≡ 21)
 refused-test true k m e = let z : _≡_ {A = ℕ} 0 1 = cc in absurd (omega arith)
 refused-test false k m e = (refl, cc)
 
