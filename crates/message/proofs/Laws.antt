@@ -10,9 +10,12 @@ use lib.ListN.{length, take, drop, getD, length-drop, drop-of-length-le}
 use lib.Seq.{getD-drop, drop-drop, take-all}
 use borrow.Author.Tests.{lt-ltb, le-ltb, le-leb, lt-leb, eq-eqb, ne-eqb, ltb-true, ltb-false, leb-true, eqb-true, eqb-false}
 use Rattle.message.specs.Format.{CoapOption, payloadBytes, extras, extended, valueFrom, valueTo, optionIn, marked, nextIn, Options, unreadable, options, withOption, onNext, optionsIn, optionsOf}
-use Rattle.message.specs.Reader.{between, endsOf, counted, nextAt, onFound, foundIn, foundFrom}
+use Rattle.message.specs.Reader.{between, endsOf, RunOf, counted, nextAt, onFound, foundIn, foundFrom}
 use Rattle.message.specs.declared.Next.{Next}
 use Rattle.message.specs.declared.Next.the-variants.{Option, End, Malformed}
+use Rattle.message.specs.declared.Run.{Run}
+use Rattle.message.specs.declared.Run.the-variants as run-variants
+use Rattle.message.specs.declared.Run.the-variants.{More}
 use Rattle.message.specs.declared.Ends.{Ends}
 use Rattle.message.specs.declared.Ends.the-variants as ends-variants
 use Rattle.message.specs.declared.Ends.the-variants.{Left}
@@ -235,25 +238,75 @@ ends-with : (number : ℕ) (value : List ℕ) (rest : Options) → endsOf (withO
 ends-with number value unreadable = refl
 ends-with number value (options list left) = refl
 
+-- after an option, the options end where those of the rest do
+ends-after : (before : ℕ) (bytes : List ℕ) (number from to : ℕ) → nextIn before bytes ≡ Option number from to → endsOf (optionsOf number (drop to bytes)) ≡ endsOf (optionsOf before bytes)
+ends-after before bytes number from to e =
+    sym (ap endsOf (options-more before bytes number from to e) ∙ ends-with number (take (to - from) (drop from bytes)) (optionsOf number (drop to bytes)))
+
+-- ---- runs of options
+
+-- a run that goes on in the rest is one of the whole
+run-whole : (before number to : ℕ) (bytes : List ℕ) → to ≤ length bytes → endsOf (optionsOf number (drop to bytes)) ≡ endsOf (optionsOf before bytes)
+    → (r : Run) → RunOf number (drop to bytes) r → RunOf before bytes r
+run-whole before number to bytes there e (More left k) run =
+    let l = length-drop to bytes in
+    let at : to + (length (drop to bytes) - left) ≡ length bytes - left = omega (arith, run .falls) in
+    record {
+      ends = ap (λ (n : ℕ). endsOf (optionsOf k (drop n bytes))) (sym at) ∙ ap (λ (l : List ℕ). endsOf (optionsOf k l)) (sym (drop-drop (length (drop to bytes) - left) to bytes)) ∙ run .ends ∙ e;
+      falls = omega (arith, run .falls);
+    }
+run-whole before number to bytes there e (run-variants.End left) run = record { ends = run .ends ∙ e; falls = tt }
+run-whole before number to bytes there e run-variants.Malformed run = record { ends = run .ends ∙ e; falls = tt }
+
 module _ (before : ℕ) (bytes : List ℕ) (next : Next) (is : next ≡ nextIn before bytes) where
-  pub ends-more : (number from to : ℕ) → next ≡ Option number from to → (r : Ends) → r ≡ endsOf (optionsOf number (take (length bytes - to) (drop to bytes))) → r ≡ endsOf (optionsOf before bytes)
-  ends-more number from to e r h =
-      h
-      ∙ ap (λ (l : List ℕ). endsOf (optionsOf number l)) (rest-of bytes to)
-      ∙ sym (ends-with number (take (to - from) (drop from bytes)) (optionsOf number (drop to bytes)))
-      ∙ sym (ap endsOf (options-more before bytes number from to (sym is ∙ e)))
+  pub run-ends : next ≡ End → RunOf before bytes (run-variants.End (length bytes))
+  run-ends e = record { ends = sym (ap endsOf (options-end before bytes (sym is ∙ e))); falls = tt }
 
-  pub ends-here : next ≡ End → Left (length bytes) ≡ endsOf (optionsOf before bytes)
-  ends-here e = sym (ap endsOf (options-end before bytes (sym is ∙ e)))
+  pub run-bad : next ≡ Malformed → RunOf before bytes run-variants.Malformed
+  run-bad e = record { ends = sym (ap endsOf (options-bad before bytes (sym is ∙ e))); falls = tt }
 
-  pub ends-badly : next ≡ Malformed → ends-variants.Malformed ≡ endsOf (optionsOf before bytes)
-  ends-badly e = sym (ap endsOf (options-bad before bytes (sym is ∙ e)))
+  module _ (number from to : ℕ) (e : next ≡ Option number from to) where
+    -- the rest is shorter
+    pub rest-shorter : (to ≤ length bytes) × (length (take (length bytes - to) (drop to bytes)) < length bytes)
+    rest-shorter =
+        let b = next-bounds before bytes number from to (sym is ∙ e) in
+        (b .there, rw (rest-of bytes to) (omega (arith, b, length-drop to bytes)))
 
-  -- the rest is shorter
-  pub rest-shorter : (number from to : ℕ) → next ≡ Option number from to → (to ≤ length bytes) × (length (take (length bytes - to) (drop to bytes)) < length bytes)
-  rest-shorter number from to e =
-      let b = next-bounds before bytes number from to (sym is ∙ e) in
-      (b .there, rw (rest-of bytes to) (omega (arith, b, length-drop to bytes)))
+    pub run-stops : RunOf before bytes (More (length bytes - to) number)
+    run-stops =
+        let b = next-bounds before bytes number from to (sym is ∙ e) in
+        let at : length bytes - (length bytes - to) ≡ to = omega (arith, b .there) in
+        record {
+          ends = ap (λ (n : ℕ). endsOf (optionsOf number (drop n bytes))) at ∙ ends-after before bytes number from to (sym is ∙ e);
+          falls = omega (arith, b .starts, b .ends, b .there);
+        }
+
+    pub run-goes-on : (r : Run) → RunOf number (take (length bytes - to) (drop to bytes)) r → RunOf before bytes r
+    run-goes-on r run =
+        run-whole before number to bytes (rest-shorter .0) (ends-after before bytes number from to (sym is ∙ e)) r (rw (rest-of bytes to) at run)
+
+-- run after run, from an index on: where the options end stays the same
+module _ (bytes : List ℕ) (at last : ℕ) (there : at ≤ length bytes) (r : Run) (run : RunOf last (take (length bytes - at) (drop at bytes)) r) where
+  rest-run : RunOf last (drop at bytes) r
+  rest-run = rw (rest-of bytes at) at run
+
+  pub again : (left number : ℕ) → r ≡ More left number → (left < length bytes - at) × (endsOf (optionsOf number (drop (length bytes - left) bytes)) ≡ endsOf (optionsOf last (drop at bytes)))
+  again left number e =
+      let run′ : RunOf last (drop at bytes) (More left number) = rw e at rest-run in
+      let l = length-drop at bytes in
+      let place : at + (length (drop at bytes) - left) ≡ length bytes - left = omega (arith, run′ .falls) in
+      (
+        omega (arith, run′ .falls),
+        ap (λ (n : ℕ). endsOf (optionsOf number (drop n bytes))) (sym place)
+        ∙ ap (λ (l : List ℕ). endsOf (optionsOf number l)) (sym (drop-drop (length (drop at bytes) - left) at bytes))
+        ∙ run′ .ends
+      )
+
+  pub at-end : (left : ℕ) → r ≡ run-variants.End left → Left left ≡ endsOf (optionsOf last (drop at bytes))
+  at-end left e = let run′ : RunOf last (drop at bytes) (run-variants.End left) = rw e at rest-run in run′ .ends
+
+  pub at-bad : r ≡ run-variants.Malformed → ends-variants.Malformed ≡ endsOf (optionsOf last (drop at bytes))
+  at-bad e = let run′ : RunOf last (drop at bytes) run-variants.Malformed = rw e at rest-run in run′ .ends
 
 -- what is left is nothing, or a marker and a payload
 next-left : (before : ℕ) (bytes : List ℕ) → nextIn before bytes ≡ End → payloadBytes (drop 1 bytes) ≡ bytes
@@ -360,11 +413,18 @@ module _ (bytes : List ℕ) (at before wanted n : ℕ) (next : Next) (is : next 
         ap (onFound wanted n (λ to number k. foundIn (length bytes - at) bytes to number wanted k)) (sym is ∙ e)
         ∙ (λ i. cond (eqb number wanted) (cond (eqb n 0) (At (between from to)) (step (n - 1) i)) (step n i))
 
-    pub found-other : (number ≡ wanted → ⊥) → foundFrom bytes to number wanted n ≡ foundFrom bytes at before wanted n
-    found-other h = sym (found-step ∙ rw (ne-eqb number wanted h))
+    pub found-on : (eqb number wanted && eqb n 0) ≡ false → foundFrom bytes to number wanted (cond (eqb number wanted) (n - 1) n) ≡ foundFrom bytes at before wanted n
+    found-on = go (eqb number wanted) (eqb n 0) refl refl
+      where
+        go : (x y : Bool) → eqb number wanted ≡ x → eqb n 0 ≡ y → (x && y) ≡ false → foundFrom bytes to number wanted (cond x (n - 1) n) ≡ foundFrom bytes at before wanted n
+        go true true p q f = absurd (let z : _≡_ {A = ℕ} 0 1 = cc in omega arith)
+        go true false p q f = sym (found-step ∙ rw (p, q))
+        go false y p q f = sym (found-step ∙ rw p)
 
-    pub found-later : number ≡ wanted → (n ≡ 0 → ⊥) → foundFrom bytes to number wanted (n - 1) ≡ foundFrom bytes at before wanted n
-    found-later h k = sym (found-step ∙ rw (eq-eqb number wanted h, ne-eqb n 0 k))
-
-    pub found-here : number ≡ wanted → n ≡ 0 → At (between from to) ≡ foundFrom bytes at before wanted n
-    found-here h k = sym (found-step ∙ rw (eq-eqb number wanted h, eq-eqb n 0 k))
+    pub found-here : (eqb number wanted && eqb n 0) ≡ true → At (between from to) ≡ foundFrom bytes at before wanted n
+    found-here = go (eqb number wanted) (eqb n 0) refl refl
+      where
+        go : (x y : Bool) → eqb number wanted ≡ x → eqb n 0 ≡ y → (x && y) ≡ true → At (between from to) ≡ foundFrom bytes at before wanted n
+        go true true p q f = sym (found-step ∙ rw (p, q))
+        go true false p q f = absurd (let z : _≡_ {A = ℕ} 0 1 = cc in omega arith)
+        go false y p q f = absurd (let z : _≡_ {A = ℕ} 0 1 = cc in omega arith)

@@ -15,7 +15,7 @@ use Rattle.message.specs.declared.Ends.{Ends}
 use Rattle.message.specs.declared.Ends.the-variants as ends-variants
 use Rattle.message.specs.declared.Reading.{Reading}
 use Rattle.message.specs.declared.Reading.the-variants.{Message, Refused}
-use Rattle.message.proofs.Laws.{rest-of, LeftOf, options-left}
+use Rattle.message.proofs.Laws.{LeftOf, options-left}
 
 -- ---- the first byte and the code
 
@@ -98,13 +98,13 @@ module _ (bytes : List ℕ) (long : 4 ≤ length bytes) (first code : ℕ) (is-f
     pub token-there : 4 + first % 16 ≤ length bytes
     token-there = let h = head-tells first code (length bytes - 4) ok in omega (arith, h .there)
 
-    -- what the code lends to the reader of options is the rest after the token
-    lent-options : optionsOf 0 (take (length bytes - (4 + first % 16)) (drop (4 + first % 16) bytes)) ≡ optionsOf 0 (drop (first % 16) (drop 4 bytes))
-    lent-options = ap (optionsOf 0) (rest-of bytes (4 + first % 16) ∙ sym (drop-drop (first % 16) 4 bytes))
+    -- the options begin after the token
+    after-token : optionsOf 0 (drop (4 + first % 16) bytes) ≡ optionsOf 0 (drop (first % 16) (drop 4 bytes))
+    after-token = ap (optionsOf 0) (sym (drop-drop (first % 16) 4 bytes))
 
-    module _ (ends : Ends) (is-ends : ends ≡ endsOf (optionsOf 0 (take (length bytes - (4 + first % 16)) (drop (4 + first % 16) bytes)))) where
+    module _ (ends : Ends) (is-ends : ends ≡ endsOf (optionsOf 0 (drop (4 + first % 16) bytes))) where
       is-ends′ : ends ≡ endsOf (optionsOf 0 (drop (first % 16) (drop 4 bytes)))
-      is-ends′ = is-ends ∙ ap endsOf lent-options
+      is-ends′ = is-ends ∙ ap endsOf after-token
 
       pub read-bad : ends ≡ ends-variants.Malformed → Refused 11 ≡ readOf bytes
       read-bad e = go (optionsOf 0 (drop (first % 16) (drop 4 bytes))) refl

@@ -1,6 +1,6 @@
 -- The parts that the reader gives show what the message means: its token, its payload, its options. Assumes nothing.
 use mathlib.Core.Path.{_≡_, refl, sym, ap, _∙_}
-use mathlib.Core.Bool.{Bool, true, false, cond}
+use mathlib.Core.Bool.{Bool, true, false, cond, _&&_}
 use mathlib.Core.List.{List, [], _∷_, _++_, append-assoc}
 use Prim.Native.Nat.{ℕ, suc, _+_, _-_, _%_, _≤_, _<_}
 use native.Mathlib.Omega.{arith}
@@ -14,7 +14,7 @@ use Rattle.message.specs.Format.{CoapOption, Message, Bytes, optionsByte
 use Rattle.message.specs.Reader.{packetOf, withoutPayload, counted, nextAt, foundFrom, Value, none, value, nthOf, valueAt}
 use Rattle.message.specs.declared.Next.{Next}
 use Rattle.message.specs.declared.Next.the-variants.{Option, End, Malformed}
-use Rattle.message.proofs.Laws.{next-bounds, options-more, options-end, options-bad, options-left, no-options, with-tells, found-none, found-other, found-later, found-here}
+use Rattle.message.proofs.Laws.{next-bounds, options-more, options-end, options-bad, options-left, no-options, with-tells, found-none, found-on, found-here}
 use Rattle.message.proofs.Messages.{head-tells, meaning-tells}
 use Rattle.message.proofs.WriteBack.{write-back}
 
@@ -107,12 +107,22 @@ shown-from bytes wanted (o ∷ list) left at before n h e = go (nextIn before (d
         case : (next : Next) → next ≡ nextAt bytes at before → (number from to : ℕ) → next ≡ Option number from to → number ≡ o .number → within bytes from to ≡ o .value
             → ((k : ℕ) → valueAt bytes (foundFrom bytes to number wanted k) ≡ nthOf wanted k list) → (x y : Bool) → eqb (o .number) wanted ≡ x → eqb n 0 ≡ y
             → valueAt bytes (foundFrom bytes at before wanted n) ≡ cond x (cond y (value (o .value)) (nthOf wanted (n - 1) list)) (nthOf wanted n list)
-        case next is number from to q same shown more true true u v =
-            ap (valueAt bytes) (sym (found-here bytes at before wanted n next is number from to q (same ∙ eqb-true (o .number) wanted u) (eqb-true n 0 v))) ∙ ap value shown
-        case next is number from to q same shown more true false u v =
-            ap (valueAt bytes) (sym (found-later bytes at before wanted n next is number from to q (same ∙ eqb-true (o .number) wanted u) (eqb-false n 0 v))) ∙ more (n - 1)
-        case next is number from to q same shown more false y u v =
-            ap (valueAt bytes) (sym (found-other bytes at before wanted n next is number from to q (λ z. eqb-false (o .number) wanted u (sym same ∙ z)))) ∙ more n
+        case next is number from to q same shown more x y u v = by x y refl refl
+          where
+            test : eqb number wanted ≡ x
+            test = ap (λ (k : ℕ). eqb k wanted) same ∙ u
+
+            on : (k : ℕ) → cond x (n - 1) n ≡ k → (x && y) ≡ false → valueAt bytes (foundFrom bytes at before wanted n) ≡ nthOf wanted k list
+            on k e f =
+                ap (valueAt bytes) (sym (found-on bytes at before wanted n next is number from to q ((λ i. test i && v i) ∙ f)))
+                ∙ ap (λ (j : ℕ). valueAt bytes (foundFrom bytes to number wanted j)) (ap (λ (b : Bool). cond b (n - 1) n) test ∙ e)
+                ∙ more k
+
+            by : (x′ y′ : Bool) → x ≡ x′ → y ≡ y′ → valueAt bytes (foundFrom bytes at before wanted n) ≡ cond x (cond y (value (o .value)) (nthOf wanted (n - 1) list)) (nthOf wanted n list)
+            by true true e f =
+                rw (e, f) (ap (valueAt bytes) (sym (found-here bytes at before wanted n next is number from to q ((λ i. test i && v i) ∙ (λ i. e i && f i)))) ∙ ap value shown)
+            by true false e f = rw (e, f) (on (n - 1) (rw e) (rw (e, f)))
+            by false y′ e f = rw e (on n (rw e) (rw e))
     go End p more = absurd (let z : _≡_ {A = ℕ} 0 1 = cc (sym (options-end before (drop at bytes) p) ∙ e) in omega arith)
     go Malformed p more = absurd (no-options (sym (options-bad before (drop at bytes) p) ∙ e))
 

@@ -1,15 +1,19 @@
 -- What the reader gives of a message: where its parts stand. Nothing is copied.
-use Prim.Native.Nat.{ℕ, zero, suc, _+_, _-_}
+use Prim.Native.Nat.{ℕ, zero, suc, _+_, _-_, _<_}
+use mathlib.Core.Path.{_≡_}
 use mathlib.Core.Bool.{cond}
 use mathlib.Core.List.{List, [], _∷_}
 use lib.Dec.{eqb}
 use lib.ListN.{length, drop}
 use Rattle.pieces.specs.Memory.{within}
-use Rattle.message.specs.Format.{CoapOption, Message, Options, unreadable, options, Meaning, malformed, means, payloadBytes, nextIn, meaningOf}
+use Rattle.message.specs.Format.{CoapOption, Message, Options, unreadable, options, Meaning, malformed, means, payloadBytes, nextIn, optionsOf, meaningOf}
 use Rattle.message.specs.declared.Part.{Part}
 use Rattle.message.specs.declared.Packet.{Packet}
 use Rattle.message.specs.declared.Next.{Next}
 use Rattle.message.specs.declared.Next.the-variants.{Option, End, Malformed}
+use Rattle.message.specs.declared.Run.{Run}
+use Rattle.message.specs.declared.Run.the-variants as run-variants
+use Rattle.message.specs.declared.Run.the-variants.{More}
 use Rattle.message.specs.declared.Ends.{Ends}
 use Rattle.message.specs.declared.Ends.the-variants as ends-variants
 use Rattle.message.specs.declared.Reading.{Reading}
@@ -24,6 +28,22 @@ between from to = record { from = from; to = to }
 abbrev pub endsOf : Options → Ends
 endsOf unreadable = ends-variants.Malformed
 endsOf (options list left) = ends-variants.Left (length left)
+
+-- Where the options of the rest end, by what a run of them comes to.
+abbrev pub afterRun : List ℕ → Run → Ends
+afterRun rest (More left number) = endsOf (optionsOf number (drop (length rest - left) rest))
+afterRun rest (run-variants.End left) = ends-variants.Left left
+afterRun rest run-variants.Malformed = ends-variants.Malformed
+
+-- A run that does not reach the end takes an option at least.
+abbrev pub Falls : List ℕ → Run → Type 0
+Falls rest (More left number) = left < length rest
+Falls rest (run-variants.End left) = Unit {0}
+Falls rest run-variants.Malformed = Unit {0}
+
+pub record RunOf (before : ℕ) (rest : List ℕ) (r : Run) : Type 0 where
+  pub ends : afterRun rest r ≡ endsOf (optionsOf before rest)
+  pub falls : Falls rest r
 
 -- The parts of a message of n bytes: the token after the four bytes of the head, then the options, and the payload at the end.
 abbrev pub packetOf : ℕ → Message → Packet

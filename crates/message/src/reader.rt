@@ -5,12 +5,18 @@ use crate::Next;
 use crate::Packet;
 use crate::Part;
 use crate::Reading;
+use crate::Run;
 ghost use mathlib.Core.Path.{_≡_};
+ghost use mathlib.Core.Bool.{cond, _&&_};
+ghost use lib.Dec.{eqb};
 ghost use Prim.Native.Nat.{_+_, _-_, _*_, _≤_, _<_};
 ghost use lib.ListN.{length, drop};
 ghost use Rattle.pieces.specs.Memory.{within};
 ghost use Rattle.message.specs.Format.{extras, extended, optionIn, nextIn, optionsOf, headOk};
-ghost use Rattle.message.specs.Reader.{endsOf, readOf, nextAt, foundFrom};
+ghost use Rattle.message.specs.Reader.{RunOf, endsOf, readOf, nextAt, foundFrom};
+
+// How many calls a run of options may take: some two kilobytes of stack.
+const CALLS: usize = 31;
 
 fn wide(x: u8) -> usize
     ensures { λ r. ⌜ (r ≡ x) × (r < 256) ⌝ }
@@ -93,18 +99,46 @@ fn next_in(bytes: &[u8], before: u16) -> Next
     Next::End
 }
 
-// Takes the options one by one, until the payload marker or the end: the call on the rest is the last thing done, so it is compiled to a jump.
-fn options_end(rest: &[u8], before: u16) -> Ends
-    ensures { λ r. ⌜ r ≡ endsOf (optionsOf before (now (rest .entry))) ⌝ }
+// Takes the options one by one, until the payload marker or the end, by a call on the rest of the message. A call keeps its place on the stack, so
+// after `calls` of them it says where it stands.
+fn options_in(rest: &[u8], before: u16, calls: usize) -> Run
+    ensures { λ r. ⌜ RunOf before (now (rest .entry)) r ⌝ }
 {
     match next_in(rest, before) {
         Next::Option {
             number,
             from: _,
             to,
-        } => options_end(&rest[to..], number),
-        Next::End => Ends::Left(rest.len()),
-        Next::Malformed => Ends::Malformed,
+        } => {
+            if calls == 0 {
+                return Run::More {
+                    left: rest.len() - to,
+                    number,
+                };
+            }
+            options_in(&rest[to..], number, calls - 1)
+        }
+        Next::End => Run::End(rest.len()),
+        Next::Malformed => Run::Malformed,
+    }
+}
+
+// Where the options end that begin at an index: as many runs of options as there are.
+fn options_end(message: &[u8], start: usize) -> Ends
+    requires { ⌜ start ≤ length (now message) ⌝ }
+    ensures { λ r. ⌜ r ≡ endsOf (optionsOf 0 (drop start (now (message .entry)))) ⌝ }
+{
+    let mut at = start;
+    let mut last: u16 = 0;
+    loop {
+        match options_in(&message[at..], last, CALLS) {
+            Run::More { left, number } => {
+                at = message.len() - left;
+                last = number;
+            }
+            Run::End(left) => return Ends::Left(left),
+            Run::Malformed => return Ends::Malformed,
+        }
     }
 }
 
@@ -157,7 +191,7 @@ pub fn from_bytes(message: &[u8]) -> Reading
         return Reading::Refused(11);
     }
     let options = 4 + first % 16;
-    let Ends::Left(left) = options_end(&message[options..], 0) else {
+    let Ends::Left(left) = options_end(message, options) else {
         return Reading::Refused(11);
     };
     Reading::Message(Packet {
@@ -205,30 +239,50 @@ pub fn next_option(message: &[u8], at: usize, before: u16) -> Next
     }
 }
 
-// Goes on past options of other numbers, and past the first n of this one.
-fn find_from(message: &[u8], at: usize, before: u16, wanted: u16, n: usize) -> Found
-    ensures { λ r. ⌜ r ≡ foundFrom (now (message .entry)) at before wanted n ⌝ }
+// Whether the one that is wanted is found, with n before it.
+fn is_found(number: u16, wanted: u16, n: usize) -> bool
+    ensures { λ r. ⌜ r ≡ (eqb number wanted && eqb n 0) ⌝ }
 {
-    match next_option(message, at, before) {
-        Next::Option { number, from, to } => {
-            if number != wanted {
-                return find_from(message, to, number, wanted, n);
-            }
-            if n > 0 {
-                return find_from(message, to, number, wanted, n - 1);
-            }
-            Found::At(Part { from, to })
-        }
-        Next::End => Found::Absent,
-        Next::Malformed => Found::Absent,
+    if number == wanted {
+        return n == 0;
     }
+    false
+}
+
+// How many of the wanted number are still before the one that is wanted.
+fn still_before(number: u16, wanted: u16, n: usize) -> usize
+    ensures { λ r. ⌜ r ≡ cond (eqb number wanted) (n - 1) n ⌝ }
+{
+    if number != wanted {
+        return n;
+    }
+    if n == 0 {
+        return 0;
+    }
+    n - 1
 }
 
 // The n-th option of a number, the first being 0, of a message that was read.
 pub fn nth_option(message: &[u8], packet: Packet, wanted: u16, n: usize) -> Found
     ensures { λ r. ⌜ r ≡ foundFrom (now (message .entry)) (packet .options .from) 0 wanted n ⌝ }
 {
-    find_from(message, packet.options.from, 0, wanted, n)
+    let mut at = packet.options.from;
+    let mut last: u16 = 0;
+    let mut left = n;
+    loop {
+        match next_option(message, at, last) {
+            Next::Option { number, from, to } => {
+                if is_found(number, wanted, left) {
+                    return Found::At(Part { from, to });
+                }
+                left = still_before(number, wanted, left);
+                at = to;
+                last = number;
+            }
+            Next::End => return Found::Absent,
+            Next::Malformed => return Found::Absent,
+        }
+    }
 }
 
 // A part of the message, lent and never copied: empty where it isn't there.

@@ -1,7 +1,7 @@
-use borrow.Author.Tests.{not-true, not-false}
 use mathlib.Core.Path.{refl, sym, _∙_}
 use native.Mathlib.Omega.{arith}
 use lib.ListN.{getD}
+use borrow.Author.Tests.{not-true, not-false}
 use Rattle.message.proofs.Messages.{read-short, read-head, token-there, read-bad, left-within, read-taken}
 use borrow.Author.Needs.{needs}
 use Rattle.message.proofs.reader.from_bytes.Statement.{statement}
@@ -14,93 +14,81 @@ use Rattle.message.proofs.reader.options_end.Reads as options-end-reads
 use Rattle.message.proofs.reader.payload_length.Reads as payload-length-reads
 use Rattle.message.proofs.reader.wide.Reads as wide-reads
 
--- src/reader.rt:148:9
+-- src/reader.rt:186:9
 returns : tie.Need-returns
 returns c = read-short (c .before .before .args .message .now) (c .if1 .taken)
 
--- src/reader.rt:150:22
+-- src/reader.rt:188:22
 shared-slice-read-wide : tie.Need-shared-slice-read-wide
 shared-slice-read-wide c = search needs
 
--- src/reader.rt:150:9
+-- src/reader.rt:188:9
 wide-requires : tie.Need-wide-requires
 wide-requires c κs = search needs
 
--- src/reader.rt:151:16
+-- src/reader.rt:189:16
 shared-slice-read-code : tie.Need-shared-slice-read-code
 shared-slice-read-code c = search needs
 
--- src/reader.rt:152:9
+-- src/reader.rt:190:9
 head-ok-requires : tie.Need-head-ok-requires
 head-ok-requires c κs = search needs
 
--- src/reader.rt:153:9
+-- src/reader.rt:191:9
 returns-2 : tie.Need-returns-2
 returns-2 c = read-head (c .before .before .before .before .before .before .before .args .message .now) (c .before .before .before .before .before .if1 .left) (c .before .before .before .wide .result) (getD (c .before .before .before .before .before .before .before .args .message .now) 1 0) (c .before .before .before .wide .ensures .0) refl (sym (c .before .head-ok .ensures) ∙ not-true (c .before .head-ok .result) (c .if2 .taken))
 
--- src/reader.rt:155:19
+-- src/reader.rt:193:19
 add-options : tie.Need-add-options
 add-options c = search needs
 
--- src/reader.rt:156:40
-sub-options-end : tie.Need-sub-options-end
-sub-options-end c = token-there (c .before .before .before .before .before .before .before .args .message .now) (c .before .before .before .before .before .if1 .left) (c .before .before .before .wide .result) (getD (c .before .before .before .before .before .before .before .args .message .now) 1 0) (c .before .before .before .wide .ensures .0) refl (sym (c .before .head-ok .ensures) ∙ not-false (c .before .head-ok .result) (c .if2 .left))
-
--- src/reader.rt:156:40
-part-options-end-start : tie.Need-part-options-end-start
-part-options-end-start c = token-there (c .before .before .before .before .before .before .before .args .message .now) (c .before .before .before .before .before .if1 .left) (c .before .before .before .wide .result) (getD (c .before .before .before .before .before .before .before .args .message .now) 1 0) (c .before .before .before .wide .ensures .0) refl (sym (c .before .head-ok .ensures) ∙ not-false (c .before .head-ok .result) (c .if2 .left))
-
--- src/reader.rt:156:40
-part-options-end-end : tie.Need-part-options-end-end
-part-options-end-end c = search needs
-
--- src/reader.rt:156:28
+-- src/reader.rt:194:28
 options-end-requires : tie.Need-options-end-requires
-options-end-requires c κs = search needs
+options-end-requires c κs = token-there (c .before .before .before .before .before .before .before .args .message .now) (c .before .before .before .before .before .if1 .left) (c .before .before .before .wide .result) (getD (c .before .before .before .before .before .before .before .args .message .now) 1 0) (c .before .before .before .wide .ensures .0) refl (sym (c .before .head-ok .ensures) ∙ not-false (c .before .head-ok .result) (c .if2 .left))
 
--- src/reader.rt:156:20
+-- src/reader.rt:194:20
 enum-known-left : tie.Need-enum-known-left
 enum-known-left c = search needs
 
--- src/reader.rt:157:9
+-- src/reader.rt:195:9
 enum-told : tie.Need-enum-told
 enum-told c = search needs
 
--- src/reader.rt:157:9
+-- src/reader.rt:195:9
 returns-3 : tie.Need-returns-3
-returns-3 c = read-bad (c .before .before .before .before .before .before .before .before .before .before .before .args .message .now) (c .before .before .before .before .before .before .before .before .before .if1 .left) (c .before .before .before .before .before .before .before .wide .result) (getD (c .before .before .before .before .before .before .before .before .before .before .before .args .message .now) 1 0) (c .before .before .before .before .before .before .before .wide .ensures .0) refl (sym (c .before .before .before .before .before .head-ok .ensures) ∙ not-false (c .before .before .before .before .before .head-ok .result) (c .before .before .before .before .if2 .left)) (c .before .before .options-end .result) (c .before .before .options-end .ensures) (c .enum-told .given .1)
+returns-3 c = read-bad (c .before .before .before .before .before .before .before .before .before .before .args .message .now) (c .before .before .before .before .before .before .before .before .if1 .left) (c .before .before .before .before .before .before .wide .result) (getD (c .before .before .before .before .before .before .before .before .before .before .args .message .now) 1 0) (c .before .before .before .before .before .before .wide .ensures .0) refl (sym (c .before .before .before .before .head-ok .ensures) ∙ not-false (c .before .before .before .before .head-ok .result) (c .before .before .before .if2 .left)) (c .before .before .options-end .result) (c .before .before .options-end .ensures) (c .enum-told .given .1)
 
--- src/reader.rt:160:23
+-- src/reader.rt:198:23
 cast-t9 : tie.Need-cast-t9
 cast-t9 c = search needs
 
--- src/reader.rt:162:32
+-- src/reader.rt:200:32
 shared-slice-read-big-endian : tie.Need-shared-slice-read-big-endian
 shared-slice-read-big-endian c = search needs
 
--- src/reader.rt:162:44
+-- src/reader.rt:200:44
 shared-slice-read-big-endian-2 : tie.Need-shared-slice-read-big-endian-2
 shared-slice-read-big-endian-2 c = search needs
 
--- src/reader.rt:162:21
+-- src/reader.rt:200:21
 big-endian-requires : tie.Need-big-endian-requires
 big-endian-requires c κs = search needs
 
--- src/reader.rt:169:17
-sub-t24 : tie.Need-sub-t24
-sub-t24 c = left-within (c .before .before .before .before .before .before .before .before .before .before .before .before .before .before .before .args .message .now) (c .before .before .before .before .before .before .before .before .before .before .before .before .before .if1 .left) (c .before .before .before .before .before .before .before .before .before .before .before .wide .result) (getD (c .before .before .before .before .before .before .before .before .before .before .before .before .before .before .before .args .message .now) 1 0) (c .before .before .before .before .before .before .before .before .before .before .before .wide .ensures .0) refl (sym (c .before .before .before .before .before .before .before .before .before .head-ok .ensures) ∙ not-false (c .before .before .before .before .before .before .before .before .before .head-ok .result) (c .before .before .before .before .before .before .before .before .if2 .left)) (c .before .before .before .before .before .before .options-end .result) (c .before .before .before .before .before .before .options-end .ensures) (c .before .before .before .before .left .given .0 .0) (c .before .before .before .before .left .given .1)
+-- src/reader.rt:207:17
+sub-t21 : tie.Need-sub-t21
+sub-t21 c = left-within (c .before .before .before .before .before .before .before .before .before .before .before .before .before .before .args .message .now) (c .before .before .before .before .before .before .before .before .before .before .before .before .if1 .left) (c .before .before .before .before .before .before .before .before .before .before .wide .result) (getD (c .before .before .before .before .before .before .before .before .before .before .before .before .before .before .args .message .now) 1 0) (c .before .before .before .before .before .before .before .before .before .before .wide .ensures .0) refl (sym (c .before .before .before .before .before .before .before .before .head-ok .ensures) ∙ not-false (c .before .before .before .before .before .before .before .before .head-ok .result) (c .before .before .before .before .before .before .before .if2 .left)) (c .before .before .before .before .before .before .options-end .result) (c .before .before .before .before .before .before .options-end .ensures) (c .before .before .before .before .left .given .0 .0) (c .before .before .before .before .left .given .1)
 
--- src/reader.rt:172:23
+-- src/reader.rt:210:23
 payload-length-requires : tie.Need-payload-length-requires
 payload-length-requires c κs = search needs
 
--- src/reader.rt:172:19
-sub-t27 : tie.Need-sub-t27
-sub-t27 c = omega (arith, c .payload-length .ensures, left-within (c .before .before .before .before .before .before .before .before .before .before .before .before .before .before .before .before .args .message .now) (c .before .before .before .before .before .before .before .before .before .before .before .before .before .before .if1 .left) (c .before .before .before .before .before .before .before .before .before .before .before .before .wide .result) (getD (c .before .before .before .before .before .before .before .before .before .before .before .before .before .before .before .before .args .message .now) 1 0) (c .before .before .before .before .before .before .before .before .before .before .before .before .wide .ensures .0) refl (sym (c .before .before .before .before .before .before .before .before .before .before .head-ok .ensures) ∙ not-false (c .before .before .before .before .before .before .before .before .before .before .head-ok .result) (c .before .before .before .before .before .before .before .before .before .if2 .left)) (c .before .before .before .before .before .before .before .options-end .result) (c .before .before .before .before .before .before .before .options-end .ensures) (c .before .before .before .before .before .left .given .0 .0) (c .before .before .before .before .before .left .given .1))
+-- src/reader.rt:210:19
+sub-t24 : tie.Need-sub-t24
+sub-t24 c = omega (arith, c .payload-length .ensures, left-within (c .before .before .before .before .before .before .before .before .before .before .before .before .before .before .before .args .message .now) (c .before .before .before .before .before .before .before .before .before .before .before .before .before .if1 .left) (c .before .before .before .before .before .before .before .before .before .before .before .wide .result) (getD (c .before .before .before .before .before .before .before .before .before .before .before .before .before .before .before .args .message .now) 1 0) (c .before .before .before .before .before .before .before .before .before .before .before .wide .ensures .0) refl (sym (c .before .before .before .before .before .before .before .before .before .head-ok .ensures) ∙ not-false (c .before .before .before .before .before .before .before .before .before .head-ok .result) (c .before .before .before .before .before .before .before .before .if2 .left)) (c .before .before .before .before .before .before .before .options-end .result) (c .before .before .before .before .before .before .before .options-end .ensures) (c .before .before .before .before .before .left .given .0 .0) (c .before .before .before .before .before .left .given .1))
 
--- src/reader.rt:143:1
+-- src/reader.rt:181:1
 returns-4 : tie.Need-returns-4
-returns-4 c = read-taken (c .before .before .before .before .before .before .before .before .before .before .before .before .before .before .before .before .args .message .now) (c .before .before .before .before .before .before .before .before .before .before .before .before .before .before .if1 .left) (c .before .before .before .before .before .before .before .before .before .before .before .before .wide .result) (getD (c .before .before .before .before .before .before .before .before .before .before .before .before .before .before .before .before .args .message .now) 1 0) (c .before .before .before .before .before .before .before .before .before .before .before .before .wide .ensures .0) refl (sym (c .before .before .before .before .before .before .before .before .before .before .head-ok .ensures) ∙ not-false (c .before .before .before .before .before .before .before .before .before .before .head-ok .result) (c .before .before .before .before .before .before .before .before .before .if2 .left)) (c .before .before .before .before .before .before .before .options-end .result) (c .before .before .before .before .before .before .before .options-end .ensures) (c .before .before .before .before .before .left .given .0 .0) (c .before .before .before .before .before .left .given .1) _ _ _ refl (c .before .big-endian .ensures) (c .payload-length .ensures)
+returns-4 c = read-taken (c .before .before .before .before .before .before .before .before .before .before .before .before .before .before .before .args .message .now) (c .before .before .before .before .before .before .before .before .before .before .before .before .before .if1 .left) (c .before .before .before .before .before .before .before .before .before .before .before .wide .result) (getD (c .before .before .before .before .before .before .before .before .before .before .before .before .before .before .before .args .message .now) 1 0) (c .before .before .before .before .before .before .before .before .before .before .before .wide .ensures .0) refl (sym (c .before .before .before .before .before .before .before .before .before .head-ok .ensures) ∙ not-false (c .before .before .before .before .before .before .before .before .before .head-ok .result) (c .before .before .before .before .before .before .before .before .if2 .left)) (c .before .before .before .before .before .before .before .options-end .result) (c .before .before .before .before .before .before .before .options-end .ensures) (c .before .before .before .before .before .left .given .0 .0) (c .before .before .before .before .before .left .given .1) _ _ _ refl (c .before .big-endian .ensures) (c .payload-length .ensures)
 
 pub from-bytes-spec : {M : Type 1} → statement M
 from-bytes-spec =
@@ -113,9 +101,6 @@ from-bytes-spec =
     head-ok-requires
     returns-2
     add-options
-    sub-options-end
-    part-options-end-start
-    part-options-end-end
     options-end-requires
     enum-known-left
     enum-told
@@ -124,7 +109,7 @@ from-bytes-spec =
     shared-slice-read-big-endian
     shared-slice-read-big-endian-2
     big-endian-requires
-    sub-t24
+    sub-t21
     payload-length-requires
-    sub-t27
+    sub-t24
     returns-4)
