@@ -55,6 +55,19 @@ module _ (bytes : List ℕ) (m : Message) (is : meaningOf bytes ≡ means m) whe
         sym (within-there bytes 4 (4 + length (m .token)) (omega arith) (omega (arith, sizes)))
         ∙ rw (span, same) (take-at (m .token) (optionsBytes 0 (m .options) ++ payloadBytes (m .payload)) (length (m .token)) refl)
 
+    pub options-bytes : within bytes (packetOf (length bytes) m .options .from) (packetOf (length bytes) m .options .to) ≡ optionsBytes 0 (m .options)
+    unfolding headBytes
+    options-bytes =
+        let from : ℕ = 4 + length (m .token) in
+        let to : ℕ = length bytes - length (payloadBytes (m .payload)) in
+        let span : to - from ≡ length (optionsBytes 0 (m .options)) = omega (arith, sizes) in
+        let front : List ℕ = headBytes m ++ m .token in
+        let long : length front ≡ from = omega (arith, length-append (headBytes m) (m .token)) in
+        let whole : bytes ≡ front ++ (optionsBytes 0 (m .options) ++ payloadBytes (m .payload)) = same ∙ sym (append-assoc (headBytes m) (m .token) (optionsBytes 0 (m .options) ++ payloadBytes (m .payload))) in
+        sym (within-there bytes from to (omega (arith, sizes)) (omega arith))
+        ∙ ap (take (to - from)) (ap (drop from) whole ∙ drop-at front (optionsBytes 0 (m .options) ++ payloadBytes (m .payload)) from long)
+        ∙ take-at (optionsBytes 0 (m .options)) (payloadBytes (m .payload)) (to - from) (sym span)
+
     pub payload-shown : within bytes (packetOf (length bytes) m .payload .from) (packetOf (length bytes) m .payload .to) ≡ m .payload
     payload-shown =
         let mark = marker (m .payload) in
@@ -71,60 +84,77 @@ module _ (bytes : List ℕ) (m : Message) (is : meaningOf bytes ≡ means m) whe
     unfolding bytesOf headBytes payloadBytes
     bare-is = simp length-append (omega (arith, sizes))
 
--- ---- the n-th option of a number
-
 value-shown : (bytes : List ℕ) (at from to : ℕ) → from ≤ to → to ≤ length (drop at bytes) → at ≤ length bytes → within bytes (at + from) (at + to) ≡ take (to - from) (drop from (drop at bytes))
 value-shown bytes at from to h k l =
     let span : at + to - (at + from) ≡ to - from = omega arith in
     sym (within-there bytes (at + from) (at + to) (omega arith) (omega (arith, length-drop at bytes))) ∙ rw (span, drop-drop from at bytes)
 
+-- ---- the options, one by one
+
+-- What is next, where options are left: the first of them, with its value, and the others after it.
+pub record NextIs (bytes : List ℕ) (at before : ℕ) (o : CoapOption) (list : List CoapOption) (left : List ℕ) : Type 0 where
+  pub from : ℕ
+  pub to : ℕ
+  pub next : nextAt bytes at before ≡ Option (o .number) from to
+  pub shown : within bytes from to ≡ o .value
+  pub rest : optionsOf (o .number) (drop to bytes) ≡ options list left
+  pub there : to ≤ length bytes
+
+module _ (bytes : List ℕ) (at before : ℕ) (left : List ℕ) (h : at ≤ length bytes) where
+  pub next-shown : (o : CoapOption) (list : List CoapOption) → optionsOf before (drop at bytes) ≡ options (o ∷ list) left → NextIs bytes at before o list left
+  next-shown o list e = go (nextIn before (drop at bytes)) refl
+    where
+      go : (next : Next) → nextIn before (drop at bytes) ≡ next → NextIs bytes at before o list left
+      go (Option number from to) p =
+          let w = with-tells number (take (to - from) (drop from (drop at bytes))) (optionsOf number (drop to (drop at bytes))) (o ∷ list) left (sym (options-more before (drop at bytes) number from to p) ∙ e) in
+          let is : o ≡ record { number = number; value = take (to - from) (drop from (drop at bytes)) } = cc (w .2) in
+          let b = next-bounds before (drop at bytes) number from to p in
+          let same : number ≡ o .number = ap (λ (x : CoapOption). x .number) (sym is) in
+          record {
+            from = at + from;
+            to = at + to;
+            next = ap (counted at) p ∙ ap (λ (k : ℕ). Option k (at + from) (at + to)) same;
+            shown = value-shown bytes at from to (b .ends) (b .there) h ∙ ap (λ (x : CoapOption). x .value) (sym is);
+            rest = rw (← same) (ap (optionsOf number) (sym (drop-drop to at bytes)) ∙ w .1 ∙ ap (λ (l : List CoapOption). options l left) (cc (w .2)));
+            there = omega (arith, b .there, length-drop at bytes);
+          }
+      go End p = absurd (let z : _≡_ {A = ℕ} 0 1 = cc (sym (options-end before (drop at bytes) p) ∙ e) in omega arith)
+      go Malformed p = absurd (no-options (sym (options-bad before (drop at bytes) p) ∙ e))
+
+  -- And after the last one the end.
+  pub end-shown : optionsOf before (drop at bytes) ≡ options [] left → nextAt bytes at before ≡ End
+  end-shown e = go (nextIn before (drop at bytes)) refl
+    where
+      go : (next : Next) → nextIn before (drop at bytes) ≡ next → counted at (nextIn before (drop at bytes)) ≡ End
+      go (Option number from to) p =
+          let w = with-tells number (take (to - from) (drop from (drop at bytes))) (optionsOf number (drop to (drop at bytes))) [] left (sym (options-more before (drop at bytes) number from to p) ∙ e) in
+          absurd (let z : _≡_ {A = ℕ} 0 1 = cc (w .2) in omega arith)
+      go End p = ap (counted at) p
+      go Malformed p = absurd (no-options (sym (options-bad before (drop at bytes) p) ∙ e))
+
+-- ---- the n-th option of a number
+
 shown-from : (bytes : List ℕ) (wanted : ℕ) (list : List CoapOption) (left : List ℕ) (at before n : ℕ) → at ≤ length bytes → optionsOf before (drop at bytes) ≡ options list left
     → valueAt bytes (foundFrom bytes at before wanted n) ≡ nthOf wanted n list
 unfolding nthOf
-shown-from bytes wanted [] left at before n h e = go (nextIn before (drop at bytes)) refl
+shown-from bytes wanted [] left at before n h e = ap (valueAt bytes) (sym (found-none bytes at before wanted n End (sym (end-shown bytes at before left h e)) refl))
+shown-from bytes wanted (o ∷ list) left at before n h e = go (eqb (o .number) wanted) (eqb n 0) refl refl (λ k. shown-from bytes wanted list left (is .to) (o .number) k (is .there) (is .rest))
   where
-    go : (next : Next) → nextIn before (drop at bytes) ≡ next → valueAt bytes (foundFrom bytes at before wanted n) ≡ none
-    go (Option number from to) p =
-        let w = with-tells number (take (to - from) (drop from (drop at bytes))) (optionsOf number (drop to (drop at bytes))) [] left (sym (options-more before (drop at bytes) number from to p) ∙ e) in
-        absurd (let z : _≡_ {A = ℕ} 0 1 = cc (w .2) in omega arith)
-    go End p = ap (valueAt bytes) (sym (found-none bytes at before wanted n End (sym (ap (counted at) p)) refl))
-    go Malformed p = absurd (no-options (sym (options-bad before (drop at bytes) p) ∙ e))
-shown-from bytes wanted (o ∷ list) left at before n h e = go (nextIn before (drop at bytes)) refl (λ at before n. shown-from bytes wanted list left at before n)
-  where
-    go : (next : Next) → nextIn before (drop at bytes) ≡ next
-        → ((at before n : ℕ) → at ≤ length bytes → optionsOf before (drop at bytes) ≡ options list left → valueAt bytes (foundFrom bytes at before wanted n) ≡ nthOf wanted n list)
-        → valueAt bytes (foundFrom bytes at before wanted n) ≡ cond (eqb (o .number) wanted) (cond (eqb n 0) (value (o .value)) (nthOf wanted (n - 1) list)) (nthOf wanted n list)
-    go (Option number from to) p more =
-        let w = with-tells number (take (to - from) (drop from (drop at bytes))) (optionsOf number (drop to (drop at bytes))) (o ∷ list) left (sym (options-more before (drop at bytes) number from to p) ∙ e) in
-        let is : o ≡ record { number = number; value = take (to - from) (drop from (drop at bytes)) } = cc (w .2) in
-        let rest : optionsOf number (drop (at + to) bytes) ≡ options list left = ap (optionsOf number) (sym (drop-drop to at bytes)) ∙ w .1 ∙ ap (λ (l : List CoapOption). options l left) (cc (w .2)) in
-        let b = next-bounds before (drop at bytes) number from to p in
-        let within-bytes : at + to ≤ length bytes = omega (arith, b .there, length-drop at bytes) in
-        let shown : within bytes (at + from) (at + to) ≡ o .value = value-shown bytes at from to (b .ends) (b .there) h ∙ ap (λ (x : CoapOption). x .value) (sym is) in
-        let number-is : number ≡ o .number = ap (λ (x : CoapOption). x .number) (sym is) in
-        case (Option number (at + from) (at + to)) (sym (ap (counted at) p)) number (at + from) (at + to) refl number-is shown (λ k. more (at + to) number k within-bytes rest) (eqb (o .number) wanted) (eqb n 0) refl refl
-      where
-        case : (next : Next) → next ≡ nextAt bytes at before → (number from to : ℕ) → next ≡ Option number from to → number ≡ o .number → within bytes from to ≡ o .value
-            → ((k : ℕ) → valueAt bytes (foundFrom bytes to number wanted k) ≡ nthOf wanted k list) → (x y : Bool) → eqb (o .number) wanted ≡ x → eqb n 0 ≡ y
-            → valueAt bytes (foundFrom bytes at before wanted n) ≡ cond x (cond y (value (o .value)) (nthOf wanted (n - 1) list)) (nthOf wanted n list)
-        case next is number from to q same shown more x y u v = by x y refl refl
-          where
-            test : eqb number wanted ≡ x
-            test = ap (λ (k : ℕ). eqb k wanted) same ∙ u
+    is : NextIs bytes at before o list left
+    is = next-shown bytes at before left h o list e
 
-            on : (k : ℕ) → cond x (n - 1) n ≡ k → (x && y) ≡ false → valueAt bytes (foundFrom bytes at before wanted n) ≡ nthOf wanted k list
-            on k e f =
-                ap (valueAt bytes) (sym (found-on bytes at before wanted n next is number from to q ((λ i. test i && v i) ∙ f)))
-                ∙ ap (λ (j : ℕ). valueAt bytes (foundFrom bytes to number wanted j)) (ap (λ (b : Bool). cond b (n - 1) n) test ∙ e)
-                ∙ more k
-
-            by : (x′ y′ : Bool) → x ≡ x′ → y ≡ y′ → valueAt bytes (foundFrom bytes at before wanted n) ≡ cond x (cond y (value (o .value)) (nthOf wanted (n - 1) list)) (nthOf wanted n list)
-            by true true e f =
-                rw (e, f) (ap (valueAt bytes) (sym (found-here bytes at before wanted n next is number from to q ((λ i. test i && v i) ∙ (λ i. e i && f i)))) ∙ ap value shown)
-            by true false e f = rw (e, f) (on (n - 1) (rw e) (rw (e, f)))
-            by false y′ e f = rw e (on n (rw e) (rw e))
-    go End p more = absurd (let z : _≡_ {A = ℕ} 0 1 = cc (sym (options-end before (drop at bytes) p) ∙ e) in omega arith)
-    go Malformed p more = absurd (no-options (sym (options-bad before (drop at bytes) p) ∙ e))
+    go : (x y : Bool) → eqb (o .number) wanted ≡ x → eqb n 0 ≡ y → ((k : ℕ) → valueAt bytes (foundFrom bytes (is .to) (o .number) wanted k) ≡ nthOf wanted k list)
+        → valueAt bytes (foundFrom bytes at before wanted n) ≡ cond x (cond y (value (o .value)) (nthOf wanted (n - 1) list)) (nthOf wanted n list)
+    go true true p q more =
+        ap (valueAt bytes) (sym (found-here bytes at before wanted n (nextAt bytes at before) refl (o .number) (is .from) (is .to) (is .next) (λ i. p i && q i))) ∙ ap value (is .shown)
+    go true false p q more =
+        ap (valueAt bytes) (sym (found-on bytes at before wanted n (nextAt bytes at before) refl (o .number) (is .from) (is .to) (is .next) (λ i. p i && q i)))
+        ∙ ap (λ (b : Bool). valueAt bytes (foundFrom bytes (is .to) (o .number) wanted (cond b (n - 1) n))) p
+        ∙ more (n - 1)
+    go false y p q more =
+        ap (valueAt bytes) (sym (found-on bytes at before wanted n (nextAt bytes at before) refl (o .number) (is .from) (is .to) (is .next) (λ i. p i && q i)))
+        ∙ ap (λ (b : Bool). valueAt bytes (foundFrom bytes (is .to) (o .number) wanted (cond b (n - 1) n))) p
+        ∙ more n
 
 -- The n-th option of a number that is found in a message is the n-th that the message means.
 pub found-shown : (bytes : List ℕ) (m : Message) → meaningOf bytes ≡ means m → (wanted n : ℕ)
