@@ -294,12 +294,11 @@ module _ (bytes : List ℕ) (at last : ℕ) (there : at ≤ length bytes) (r : R
   again left number e =
       let run′ : RunOf last (drop at bytes) (More left number) = rw e at rest-run in
       let l = length-drop at bytes in
-      let place : at + (length (drop at bytes) - left) ≡ length bytes - left = omega (arith, run′ .falls) in
-      (
+      let place : at + (length (drop at bytes) - left) ≡ length bytes - left = omega (arith, run′ .falls) in (
         omega (arith, run′ .falls),
         ap (λ (n : ℕ). endsOf (optionsOf number (drop n bytes))) (sym place)
-        ∙ ap (λ (l : List ℕ). endsOf (optionsOf number l)) (sym (drop-drop (length (drop at bytes) - left) at bytes))
-        ∙ run′ .ends
+            ∙ ap (λ (l : List ℕ). endsOf (optionsOf number l)) (sym (drop-drop (length (drop at bytes) - left) at bytes))
+            ∙ run′ .ends,
       )
 
   pub at-end : (left : ℕ) → r ≡ run-variants.End left → Left left ≡ endsOf (optionsOf last (drop at bytes))

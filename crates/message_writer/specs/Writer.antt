@@ -1,7 +1,7 @@
 -- What the writer makes of what it is given.
 use Prim.Native.Nat.{ℕ, _+_, _-_, _*_, _/_, _%_}
 use mathlib.Core.Bool.{Bool, cond, _&&_}
-use mathlib.Core.List.{List, [], _∷_}
+use mathlib.Core.List.{List, [], _∷_, _++_}
 use mathlib.Core.Path.{_≡_}
 use lib.Dec.{leb, eqb}
 use lib.ListN.{length, take, drop}
@@ -23,7 +23,8 @@ pub record Given : Type 0 where
   pub values : List ℕ
   pub payload : List ℕ
 
--- Each option has a number, and the next bytes of the values, as many as its length says.
+-- Each option has a number, and the next bytes of the values, as many as its length says. Numbers, lengths and values that do not go together are
+-- ruled out by `describes`.
 unfoldable pub optionsFrom : List ℕ → List ℕ → List ℕ → List CoapOption
 optionsFrom [] lengths values = []
 optionsFrom (number ∷ numbers) [] values = []
@@ -46,6 +47,31 @@ messageOf g = record {
   token = g .token;
   options = optionsFrom (g .numbers) (g .lengths) (g .values);
   payload = g .payload;
+}
+
+-- The other way: what the writer is given for a message.
+unfoldable pub numbersOf : List CoapOption → List ℕ
+numbersOf [] = []
+numbersOf (o ∷ options) = o .number ∷ numbersOf options
+
+unfoldable pub lengthsOf : List CoapOption → List ℕ
+lengthsOf [] = []
+lengthsOf (o ∷ options) = length (o .value) ∷ lengthsOf options
+
+unfoldable pub valuesOf : List CoapOption → List ℕ
+valuesOf [] = []
+valuesOf (o ∷ options) = o .value ++ valuesOf options
+
+abbrev pub givenOf : Message → Given
+givenOf m = record {
+  messageType = m .messageType;
+  code = m .code;
+  messageId = m .messageId;
+  token = m .token;
+  numbers = numbersOf (m .options);
+  lengths = lengthsOf (m .options);
+  values = valuesOf (m .options);
+  payload = m .payload;
 }
 
 -- "A message without an encoding that the reader takes .. or an output too small" is not taken.

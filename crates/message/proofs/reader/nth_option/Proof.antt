@@ -49,7 +49,7 @@ loop-less c = let b = found-bounds (c .before .before .before .before .before .b
 
 -- src/reader.rt:272:5
 loop-again : tie.Need-loop-again Inv-loop μ-loop
-loop-again c = 
+loop-again c =
     ap (foundFrom (c .before .before .before .before .before .before .before .before .before .args .message .now) (c .before .before .before .before .number .given .0 .1 .1 .0) (c .before .before .before .before .number .given .0 .0) (c .before .before .before .before .before .before .before .before .before .args .wanted)) (c .still-before .ensures)
     ∙ found-on (c .before .before .before .before .before .before .before .before .before .args .message .now) (c .before .before .before .before .before .before .before .loop .at) (c .before .before .before .before .before .before .before .loop .last) (c .before .before .before .before .before .before .before .before .before .args .wanted) (c .before .before .before .before .before .before .before .loop .left) (c .before .before .before .before .before .before .next-option .result) (c .before .before .before .before .before .before .next-option .ensures) (c .before .before .before .before .number .given .0 .0) (c .before .before .before .before .number .given .0 .1 .0) (c .before .before .before .before .number .given .0 .1 .1 .0) (c .before .before .before .before .number .given .1) (sym (c .before .before .is-found .ensures) ∙ c .before .if1 .left) ∙ c .before .before .before .before .before .before .before .loop .inv
 
