@@ -9,7 +9,7 @@ use lib.Dec.{leb, ltb, eqb}
 use lib.ListN.{length, take, drop, getD, length-drop, drop-of-length-le}
 use lib.Seq.{getD-drop, drop-drop, take-all}
 use borrow.Author.Tests.{lt-ltb, le-ltb, le-leb, lt-leb, eq-eqb, ne-eqb, ltb-true, ltb-false, leb-true, eqb-true, eqb-false}
-use Rattle.message.specs.Format.{CoapOption, payloadBytes, extras, extended, valueFrom, valueTo, optionIn, marked, nextIn, Options, unreadable, options, withOption, onNext, optionsIn, optionsOf}
+use Rattle.message.specs.Format.{CoapOption, payloadBytes, extras, extended, valueFrom, valueTo, optionIn, marked, nextIn, Options, broken, options, withOption, onNext, optionsIn, optionsOf}
 use Rattle.message.specs.Reader.{between, endsOf, RunOf, counted, nextAt, onFound, foundIn, foundFrom}
 use Rattle.message.specs.declared.Next.{Next}
 use Rattle.message.specs.declared.Next.the-variants.{Option, End, Malformed}
@@ -201,13 +201,13 @@ enough (suc f) (suc g) before bytes h k = go (nextIn before bytes) refl (λ numb
     go End e more = refl
     go Malformed e more = refl
 
-pub no-options : {list : List CoapOption} {left : List ℕ} → unreadable ≡ options list left → ⊥
+pub no-options : {list : List CoapOption} {left : List ℕ} → broken ≡ options list left → ⊥
 no-options e = let z : _≡_ {A = ℕ} 0 1 = cc in omega arith
 
 -- options that begin with one are that one, and those of the rest
 pub with-tells : (number : ℕ) (value : List ℕ) (rest : Options) (list : List CoapOption) (left : List ℕ) → withOption number value rest ≡ options list left
     → (more : List CoapOption) × (rest ≡ options more left) × (list ≡ record { number = number; value = value } ∷ more)
-with-tells number value unreadable list left e = absurd (no-options e)
+with-tells number value broken list left e = absurd (no-options e)
 with-tells number value (options more left′) list left e = (more, (cc), cc)
 
 module _ (before : ℕ) (bytes : List ℕ) where
@@ -224,7 +224,7 @@ module _ (before : ℕ) (bytes : List ℕ) where
   unfolding optionsIn
   options-end e = ap (onNext bytes (λ number rest. optionsIn (length bytes) number rest)) e
 
-  pub options-bad : nextIn before bytes ≡ Malformed → optionsOf before bytes ≡ unreadable
+  pub options-bad : nextIn before bytes ≡ Malformed → optionsOf before bytes ≡ broken
   unfolding optionsIn
   options-bad e = ap (onNext bytes (λ number rest. optionsIn (length bytes) number rest)) e
 
@@ -235,7 +235,7 @@ pub rest-of : (bytes : List ℕ) (to : ℕ) → take (length bytes - to) (drop t
 rest-of bytes to = take-all (length bytes - to) (drop to bytes) (omega (arith, length-drop to bytes))
 
 ends-with : (number : ℕ) (value : List ℕ) (rest : Options) → endsOf (withOption number value rest) ≡ endsOf rest
-ends-with number value unreadable = refl
+ends-with number value broken = refl
 ends-with number value (options list left) = refl
 
 -- after an option, the options end where those of the rest do

@@ -8,7 +8,7 @@ use lib.Dec.{leb, eqb}
 use lib.ListN.{length, take, drop, getD, length-drop, length-take}
 use lib.Seq.{drop-drop, length-take-le}
 use borrow.Author.Tests.{le-leb, lt-leb, eq-eqb, ne-eqb, leb-true, eqb-true}
-use Rattle.message.specs.Format.{CoapOption, Options, unreadable, options, optionsOf, payloadBytes, malformed, headOk, meaningWith, meaningOf}
+use Rattle.message.specs.Format.{CoapOption, Options, broken, options, optionsOf, payloadBytes, malformed, headOk, meaningWith, meaningOf}
 use Rattle.message.specs.Format as format
 use Rattle.message.specs.Reader.{between, endsOf, readingOf, readOf}
 use Rattle.message.specs.declared.Ends.{Ends}
@@ -110,7 +110,7 @@ module _ (bytes : List ℕ) (long : 4 ≤ length bytes) (first code : ℕ) (is-f
       read-bad e = go (optionsOf 0 (drop (first % 16) (drop 4 bytes))) refl
         where
           go : (o : Options) → optionsOf 0 (drop (first % 16) (drop 4 bytes)) ≡ o → Refused 11 ≡ readOf bytes
-          go unreadable p = sym (ap (readingOf (length bytes)) (meaning-headed ∙ ap (meaningWith first code (getD bytes 2 0 * 256 + getD bytes 3 0) (drop 4 bytes)) p))
+          go broken p = sym (ap (readingOf (length bytes)) (meaning-headed ∙ ap (meaningWith first code (getD bytes 2 0 * 256 + getD bytes 3 0) (drop 4 bytes)) p))
           go (options list left) p = absurd (let z : _≡_ {A = ℕ} 0 1 = cc (sym e ∙ is-ends′ ∙ ap endsOf p) in omega arith)
 
       module _ (left : ℕ) (is-left : ends ≡ ends-variants.Left left) where
@@ -119,7 +119,7 @@ module _ (bytes : List ℕ) (long : 4 ≤ length bytes) (first code : ℕ) (is-f
         taken-options = go (optionsOf 0 (drop (first % 16) (drop 4 bytes))) refl
           where
             go : (o : Options) → optionsOf 0 (drop (first % 16) (drop 4 bytes)) ≡ o → (list : List CoapOption) × (rest : List ℕ) × (optionsOf 0 (drop (first % 16) (drop 4 bytes)) ≡ options list rest) × (left ≡ length rest)
-            go unreadable p = absurd (let z : _≡_ {A = ℕ} 0 1 = cc (sym is-left ∙ is-ends′ ∙ ap endsOf p) in omega arith)
+            go broken p = absurd (let z : _≡_ {A = ℕ} 0 1 = cc (sym is-left ∙ is-ends′ ∙ ap endsOf p) in omega arith)
             go (options list rest) p = (list, rest, p, cc (sym is-left ∙ is-ends′ ∙ ap endsOf p))
 
         after : LeftOf (drop (first % 16) (drop 4 bytes)) (taken-options .1)
@@ -181,7 +181,7 @@ meaning-tells (a ∷ b ∷ x ∷ y ∷ rest) m e = go (headOk a b (length rest))
     go : (h : Bool) → headOk a b (length rest) ≡ h → (o : Options) → optionsOf 0 (drop (a % 16) rest) ≡ o
         → cond h (meaningWith a b (x * 256 + y) rest o) malformed ≡ format.means m → Meant (a ∷ b ∷ x ∷ y ∷ rest) m
     go false p o q e = absurd (no-meaning e)
-    go true p unreadable q e = absurd (no-meaning e)
+    go true p broken q e = absurd (no-meaning e)
     go true p (options list left) q e =
         let is : m ≡ record { messageType = a / 16 % 4; code = b; messageId = x * 256 + y; token = take (a % 16) rest; options = list; payload = drop 1 left } = cc in
         let n : length rest ≡ length (a ∷ b ∷ x ∷ y ∷ rest) - 4 = omega arith in

@@ -10,7 +10,7 @@ use lib.Seq.{drop-drop, length-take-le, take-at, drop-at, take-all}
 use borrow.Author.Tests.{eqb-true, eqb-false, eq-eqb, ne-eqb}
 use Rattle.pieces.specs.Memory.{within}
 use Rattle.pieces.proofs.Memory.{within-there}
-use Rattle.message.specs.Format.{CoapOption, Message, Bytes, optionsBytes, payloadBytes, headBytes, bytesOf, nextIn, Options, unreadable, options, withOption, optionsOf, meaningOf, means}
+use Rattle.message.specs.Format.{CoapOption, Message, Bytes, optionsBytes, payloadBytes, headBytes, bytesOf, nextIn, Options, broken, options, withOption, optionsOf, meaningOf, means}
 use Rattle.message.specs.Reader.{packetOf, withoutPayload, counted, nextAt, foundFrom, Value, none, value, nthOf, valueAt}
 use Rattle.message.specs.declared.Next.{Next}
 use Rattle.message.specs.declared.Next.the-variants.{Option, End, Malformed}

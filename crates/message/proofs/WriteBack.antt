@@ -8,7 +8,7 @@ use lib.Dec.{leb, ltb, eqb}
 use lib.ListN.{length, take, drop, getD, length-append, length-drop, length-take, take-append-drop}
 use lib.Seq.{drop-drop, getD-drop, length-take-le}
 use borrow.Author.Tests.{lt-ltb, le-ltb, le-leb, eqb-true, eqb-false, eq-eqb, ne-eqb}
-use Rattle.message.specs.Format.{CoapOption, Message, Bytes, nibbleOf, extension, optionHead, optionBytes, optionsBytes, payloadBytes, headBytes, bytesOf, optionsOk, emptyOk, encodable, extras, extended, valueFrom, valueTo, nextIn, Options, unreadable, options, withOption, onNext, optionsIn, optionsOf, meaningOf, means}
+use Rattle.message.specs.Format.{CoapOption, Message, Bytes, nibbleOf, extension, optionHead, optionBytes, optionsBytes, payloadBytes, headBytes, bytesOf, optionsOk, emptyOk, encodable, extras, extended, valueFrom, valueTo, nextIn, Options, broken, options, withOption, onNext, optionsIn, optionsOf, meaningOf, means}
 use Rattle.message.specs.declared.Next.{Next}
 use Rattle.message.specs.declared.Next.the-variants.{Option, End, Malformed}
 use Rattle.message.proofs.Laws.{IsOption, next-tells, end-no-option, no-options, with-tells, options-left}

@@ -50,7 +50,7 @@ unfoldable pub payloadBytes : List ℕ → List ℕ
 payloadBytes [] = []
 payloadBytes (b ∷ payload) = 255 ∷ b ∷ payload
 
--- "Version (2 bits, always 1), type (2 bits), token length (4 bits)", the code, and the message ID, big-endian.
+-- "Version (2 bits, always 1), type (2 bits: ..), token length (4 bits, ..)", the code, and the message ID, big-endian.
 unfoldable pub headBytes : Message → List ℕ
 headBytes m = (64 + m .messageType * 16 + length (m .token)) ∷ m .code ∷ (m .messageId / 256) ∷ (m .messageId % 256) ∷ []
 
@@ -68,14 +68,14 @@ optionsOk before (o ∷ options) =
 unfoldable pub emptyOk : Message → Bool
 emptyOk m = cond (eqb (m .code) 0) (eqb (length (m .token) + length (m .options) + length (m .payload)) 0) true
 
--- The message has an encoding.
+-- The message has an encoding, if its token, values and payload are bytes.
 unfoldable pub encodable : Message → Bool
 encodable m =
     leb (m .messageType) 3 && leb (m .code) 255 && leb (m .messageId) 65535 && leb (length (m .token)) 8 && optionsOk 0 (m .options) && emptyOk m
 
 -- ---- what bytes mean
 
--- How many bytes extend a nibble, and the number that the nibble and these bytes stand for.
+-- How many bytes extend a nibble, and the number that the nibble and these bytes stand for (a byte that is not there counts as 0).
 unfoldable pub extras : ℕ → ℕ
 extras nibble = cond (eqb nibble 13) 1 (cond (eqb nibble 14) 2 0)
 
@@ -83,52 +83,54 @@ unfoldable pub extended : ℕ → List ℕ → ℕ
 extended nibble bytes =
     cond (eqb nibble 13) (getD bytes 0 0 + 13) (cond (eqb nibble 14) (getD bytes 0 0 * 256 + getD bytes 1 0 + 269) nibble)
 
--- Where the value of an option starts and ends, counted from the option's first byte, for its two nibbles and the bytes after them.
+-- Where the value of an option starts and ends, counted from the option's first byte: for the nibbles of its delta and its length, and the bytes
+-- after them.
 abbrev pub valueFrom : ℕ → ℕ → ℕ
-valueFrom delta len = 1 + extras delta + extras len
+valueFrom deltaNibble lenNibble = 1 + extras deltaNibble + extras lenNibble
 
 abbrev pub valueTo : ℕ → ℕ → List ℕ → ℕ
-valueTo delta len rest = valueFrom delta len + extended len (drop (extras delta) rest)
+valueTo deltaNibble lenNibble rest = valueFrom deltaNibble lenNibble + extended lenNibble (drop (extras deltaNibble) rest)
 
--- "15 is reserved: as the byte 0xFF it is the payload marker, else a format error." So is an option past the end, or a number above 65,535.
+-- "15 is reserved: as the byte 0xFF it is the payload marker, else a format error." So is an option or an extension past the end, or a number above
+-- 65,535.
 unfoldable pub optionIn : ℕ → ℕ → ℕ → List ℕ → Next
-optionIn before delta len rest =
-    cond (ltb 14 delta) Malformed
-    (cond (ltb 14 len) Malformed
-    (cond (ltb (1 + length rest) (valueTo delta len rest)) Malformed
-    (cond (ltb 65535 (before + extended delta rest)) Malformed
-    (Option (before + extended delta rest) (valueFrom delta len) (valueTo delta len rest)))))
+optionIn before deltaNibble lenNibble rest =
+    cond (ltb 14 deltaNibble) Malformed
+    (cond (ltb 14 lenNibble) Malformed
+    (cond (ltb (1 + length rest) (valueTo deltaNibble lenNibble rest)) Malformed
+    (cond (ltb 65535 (before + extended deltaNibble rest)) Malformed
+    (Option (before + extended deltaNibble rest) (valueFrom deltaNibble lenNibble) (valueTo deltaNibble lenNibble rest)))))
 
 -- "A payload marker with no byte after it is a format error."
 unfoldable pub marked : List ℕ → Next
 marked [] = Malformed
 marked (b ∷ payload) = End
 
--- What stands where an option may begin: an option, after one of the number `before`, or the end of the options.
+-- What stands where an option may begin: an option, after one of the number `before`, the end of the options, or neither.
 unfoldable pub nextIn : ℕ → List ℕ → Next
 nextIn before [] = End
 nextIn before (b ∷ rest) = cond (eqb b 255) (marked rest) (optionIn before (b / 16) (b % 16) rest)
 
 -- All options, and the bytes that are left where they end: none, or the payload with its marker.
 pub data Options : Type 0 where
-  unreadable : Options
+  broken : Options
   options : List CoapOption → List ℕ → Options
 
 abbrev pub withOption : ℕ → List ℕ → Options → Options
-withOption number value unreadable = unreadable
+withOption number value broken = broken
 withOption number value (options list left) = options (record { number = number; value = value } ∷ list) left
 
 abbrev pub onNext : List ℕ → (ℕ → List ℕ → Options) → Next → Options
 onNext bytes more (Option number from to) = withOption number (take (to - from) (drop from bytes)) (more number (drop to bytes))
 onNext bytes more End = options [] bytes
-onNext bytes more Malformed = unreadable
+onNext bytes more Malformed = broken
 
--- "Options are taken one by one until the payload marker or the end": at most as many as the first number says.
+-- "Options are taken one by one until the payload marker or the end": fewer than the first number says.
 unfoldable pub optionsIn : ℕ → ℕ → List ℕ → Options
-optionsIn zero before bytes = unreadable
+optionsIn zero before bytes = broken
 optionsIn (suc most) before bytes = onNext bytes (λ number rest. optionsIn most number rest) (nextIn before bytes)
 
--- An option takes a byte at least, so there are never more than bytes.
+-- An option takes a byte at least, so the first number never runs out.
 abbrev pub optionsOf : ℕ → List ℕ → Options
 optionsOf before bytes = optionsIn (suc (length bytes)) before bytes
 
@@ -141,7 +143,7 @@ unfoldable pub headOk : ℕ → ℕ → ℕ → Bool
 headOk first code n = eqb (first / 64) 1 && leb (first % 16) 8 && leb (first % 16) n && cond (eqb code 0) (eqb n 0) true
 
 abbrev pub meaningWith : ℕ → ℕ → ℕ → List ℕ → Options → Meaning
-meaningWith first code id rest unreadable = malformed
+meaningWith first code id rest broken = malformed
 meaningWith first code id rest (options list left) =
     means (record {
       messageType = first / 16 % 4;

@@ -6,7 +6,7 @@ use mathlib.Core.List.{List, [], _∷_}
 use lib.Dec.{eqb}
 use lib.ListN.{length, drop}
 use Rattle.pieces.specs.Memory.{within}
-use Rattle.message.specs.Format.{CoapOption, Message, Options, unreadable, options, Meaning, malformed, means, payloadBytes, nextIn, optionsOf, meaningOf}
+use Rattle.message.specs.Format.{CoapOption, Message, Options, broken, options, Meaning, malformed, means, payloadBytes, nextIn, optionsOf, meaningOf}
 use Rattle.message.specs.declared.Part.{Part}
 use Rattle.message.specs.declared.Packet.{Packet}
 use Rattle.message.specs.declared.Next.{Next}
@@ -26,7 +26,7 @@ between from to = record { from = from; to = to }
 
 -- How many bytes are left where the options end.
 abbrev pub endsOf : Options → Ends
-endsOf unreadable = ends-variants.Malformed
+endsOf broken = ends-variants.Malformed
 endsOf (options list left) = ends-variants.Left (length left)
 
 -- Where the options of the rest end, by what a run of them comes to.

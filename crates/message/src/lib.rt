@@ -32,7 +32,8 @@ pub enum Reading {
     Refused(u8),
 }
 
-// What stands where an option may begin: an option and where its value stands, or the end of the options.
+// What stands where an option may begin: an option and where its value stands, the end of the options, or neither. Places count from where the
+// bytes begin that were handed over.
 pub enum Next {
     Option { number: u16, from: usize, to: usize },
     End,

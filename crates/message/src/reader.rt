@@ -1,4 +1,4 @@
-// A message is judged whole before any part of it is shown.
+// `from_bytes` judges the whole message before it shows any part. The other functions are for a message that it took, and say the same of any bytes.
 use crate::Ends;
 use crate::Found;
 use crate::Next;
@@ -99,9 +99,9 @@ fn next_in(bytes: &[u8], before: u16) -> Next
     Next::End
 }
 
-// Takes the options one by one, until the payload marker or the end, by a call on the rest of the message. A call keeps its place on the stack, so
-// after `calls` of them it says where it stands.
-fn options_in(rest: &[u8], before: u16, calls: usize) -> Run
+// Takes the options one by one, until the payload marker or the end, by a call on the rest of the message. Each call keeps its place on the stack,
+// so after as many as it was allowed it says where it stands.
+fn take_options(rest: &[u8], before: u16, calls: usize) -> Run
     ensures { λ r. ⌜ RunOf before (now (rest .entry)) r ⌝ }
 {
     match next_in(rest, before) {
@@ -116,7 +116,7 @@ fn options_in(rest: &[u8], before: u16, calls: usize) -> Run
                     number,
                 };
             }
-            options_in(&rest[to..], number, calls - 1)
+            take_options(&rest[to..], number, calls - 1)
         }
         Next::End => Run::End(rest.len()),
         Next::Malformed => Run::Malformed,
@@ -131,7 +131,7 @@ fn options_end(message: &[u8], start: usize) -> Ends
     let mut at = start;
     let mut last: u16 = 0;
     loop {
-        match options_in(&message[at..], last, CALLS) {
+        match take_options(&message[at..], last, CALLS) {
             Run::More { left, number } => {
                 at = message.len() - left;
                 last = number;
@@ -220,8 +220,8 @@ pub fn bare(packet: Packet) -> usize
     packet.options.to
 }
 
-// The option that begins at an index, after one of the number `before`. A message's first begins where its options do, after 0; the
-// next one where the value before it ends.
+// The option that begins at an index of a message that was read, after one of the number `before`. The first begins where the options do, after 0;
+// each other where the value of the one before it ends. Past the end there is none.
 pub fn next_option(message: &[u8], at: usize, before: u16) -> Next
     ensures { λ r. ⌜ r ≡ nextAt (now (message .entry)) at before ⌝ }
 {
@@ -262,11 +262,11 @@ fn still_before(number: u16, wanted: u16, n: usize) -> usize
     n - 1
 }
 
-// The n-th option of a number, the first being 0, of a message that was read.
-pub fn nth_option(message: &[u8], packet: Packet, wanted: u16, n: usize) -> Found
-    ensures { λ r. ⌜ r ≡ foundFrom (now (message .entry)) (packet .options .from) 0 wanted n ⌝ }
+// The n-th option of a number, the first being 0, of a message that was read and whose options begin at an index.
+pub fn nth_option(message: &[u8], options: usize, wanted: u16, n: usize) -> Found
+    ensures { λ r. ⌜ r ≡ foundFrom (now (message .entry)) options 0 wanted n ⌝ }
 {
-    let mut at = packet.options.from;
+    let mut at = options;
     let mut last: u16 = 0;
     let mut left = n;
     loop {

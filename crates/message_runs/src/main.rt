@@ -1,6 +1,8 @@
 // Messages at the edges: written, and read again. What is printed is compared with stdout.
+use message::Found;
 use message::Reading;
 use message_writer::Writing;
+use option_table::Length;
 ghost use Prim.Native.Nat.{_≤_};
 ghost use lib.ListN.{length};
 
@@ -36,6 +38,7 @@ fn print_read(bytes: &[u8]) {
             print_number(packet.payload.from);
         }
         Reading::Refused(number) => {
+            io::write_all(1, b"refused-");
             print_number(number as usize);
         }
     }
@@ -268,13 +271,63 @@ fn not_empty(out: &mut [u8]) {
     );
 }
 
-// As many options as 65,535 bytes hold, one byte each: the reader takes them one by one, and the stack does not grow.
+// The n-th option of a number.
+fn find(message: &[u8], number: u16, n: usize) {
+    print_number(number as usize);
+    print_number(n);
+    match message::nth_option(message, 4, number, n) {
+        Found::At(value) => print_start(message::part_of(message, value)),
+        Found::Absent => {
+            io::write_all(1, b"absent");
+        }
+    }
+    io::write_all(1, b"\n");
+}
+
+// Two options of the number 11, and none of another.
+fn finds() {
+    let message = [64u8, 1, 93, 31, 177, 97, 2, 98, 98];
+    find(&message, 11, 0);
+    find(&message, 11, 1);
+    find(&message, 11, 2);
+    find(&message, 3, 0);
+}
+
+// Whether the table has a number, and lets its value have so many bytes.
+fn length(number: u16, len: usize) {
+    print_number(number as usize);
+    print_number(len);
+    match option_table::length_allowed(number, len) {
+        Length::Unknown => io::write_all(1, b"unknown\n"),
+        Length::Allowed => io::write_all(1, b"allowed\n"),
+        Length::NotAllowed => io::write_all(1, b"not allowed\n"),
+    }
+    ;
+}
+
+fn lengths() {
+    length(3, 0);
+    length(3, 1);
+    length(35, 1034);
+    length(35, 1035);
+    length(2, 0);
+    length(65535, 0);
+}
+
+// A million bytes, all but four of them options of one byte each: far more than the stack could hold calls for.
 fn many_options() {
     let mut message = many();
     message[0] = 64;
     message[1] = 1;
-    io::write_all(1, b"65531 options ");
+    io::write_all(1, b"999996 options ");
     print_read(&message);
+    io::write_all(1, b"\n");
+}
+
+// An option cut by a byte.
+fn cut() {
+    io::write_all(1, b"cut ");
+    print_read(&[64u8, 1, 93, 31, 177]);
     io::write_all(1, b"\n");
 }
 
@@ -283,8 +336,8 @@ fn zeros() -> [u8; 65805] {
     [0u8; 65805]
 }
 
-fn many() -> [u8; 65535] {
-    [0u8; 65535]
+fn many() -> [u8; 1000000] {
+    [0u8; 1000000]
 }
 
 fn output() -> [u8; 70000] {
@@ -301,5 +354,8 @@ fn main() {
     counts(&mut out);
     heads(&mut out);
     not_empty(&mut out);
+    cut();
+    finds();
+    lengths();
     many_options();
 }

@@ -1,26 +1,19 @@
 use Rattle.message.proofs.Messages.{head-version, head-token, head-cut, head-full, head-empty}
 use Rattle.message.proofs.reader.head_ok.Statement.{statement}
 use Rattle.message.proofs.reader.head_ok.Tie as tie
-use Rattle.message.proofs.reader.head_ok.Reads as reads
-use Rattle.message.proofs.reader.head_ok.Lts as lts
 
--- src/reader.rt:112:9
 returns : tie.Need-returns
 returns c = head-version (c .before .args .first) (c .before .args .code) (c .before .args .n) (c .if1 .taken)
 
--- src/reader.rt:115:9
 returns-2 : tie.Need-returns-2
 returns-2 c = head-token (c .before .before .args .first) (c .before .before .args .code) (c .before .before .args .n) (c .before .if1 .left) (c .if2 .taken)
 
--- src/reader.rt:118:9
 returns-3 : tie.Need-returns-3
 returns-3 c = head-cut (c .before .before .before .args .first) (c .before .before .before .args .code) (c .before .before .before .args .n) (c .before .before .if1 .left) (c .before .if2 .left) (c .if3 .taken)
 
--- src/reader.rt:121:9
 returns-4 : tie.Need-returns-4
 returns-4 c = head-full (c .before .before .before .before .args .first) (c .before .before .before .before .args .code) (c .before .before .before .before .args .n) (c .before .before .before .if1 .left) (c .before .before .if2 .left) (c .before .if3 .left) (c .if4 .taken)
 
--- src/reader.rt:108:1
 returns-5 : tie.Need-returns-5
 returns-5 c = head-empty (c .before .before .before .before .args .first) (c .before .before .before .before .args .code) (c .before .before .before .before .args .n) (c .before .before .before .if1 .left) (c .before .before .if2 .left) (c .before .if3 .left) (c .if4 .left)
 

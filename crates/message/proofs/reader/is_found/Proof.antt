@@ -1,14 +1,10 @@
 use borrow.Author.Tests.{eq-eqb, ne-eqb}
 use Rattle.message.proofs.reader.is_found.Statement.{statement}
 use Rattle.message.proofs.reader.is_found.Tie as tie
-use Rattle.message.proofs.reader.is_found.Reads as reads
-use Rattle.message.proofs.reader.is_found.Lts as lts
 
--- src/reader.rt:247:9
 returns : tie.Need-returns
 returns c = rw (eq-eqb (c .before .args .number) (c .before .args .wanted) (c .if1 .taken))
 
--- src/reader.rt:243:1
 returns-2 : tie.Need-returns-2
 returns-2 c = rw (ne-eqb (c .before .args .number) (c .before .args .wanted) (c .if1 .left))
 

@@ -3,36 +3,25 @@ use Rattle.message.proofs.Laws.{next-none, next-option, next-bare, next
 use borrow.Author.Needs.{needs}
 use Rattle.message.proofs.reader.next_in.Statement.{statement}
 use Rattle.message.proofs.reader.next_in.Tie as tie
-use Rattle.message.proofs.reader.next_in.Reads as reads
-use Rattle.message.proofs.reader.next_in.Lts as lts
-use Rattle.message.proofs.reader.option_in.Reads as option-in-reads
-use Rattle.message.proofs.reader.wide.Reads as wide-reads
 
--- src/reader.rt:84:9
 returns : tie.Need-returns
 returns c = next-none (c .before .before .args .before) (c .before .before .args .bytes .now) (c .if1 .taken)
 
--- src/reader.rt:86:22
 shared-slice-read-wide : tie.Need-shared-slice-read-wide
 shared-slice-read-wide c = search needs
 
--- src/reader.rt:86:9
 wide-requires : tie.Need-wide-requires
 wide-requires c κs = search needs
 
--- src/reader.rt:88:9
 option-in-requires : tie.Need-option-in-requires
 option-in-requires c κs = search needs
 
--- src/reader.rt:88:9
 returns-2 : tie.Need-returns-2
 returns-2 c = c .option-in .ensures ∙ next-option (c .before .before .before .before .before .before .args .before) (c .before .before .wide .result) (c .before .before .before .before .before .before .args .bytes .now) (c .before .before .before .before .if1 .left) (c .before .before .wide .ensures .0) (c .before .if2 .taken)
 
--- src/reader.rt:91:9
 returns-3 : tie.Need-returns-3
 returns-3 c = next-bare (c .before .before .before .before .before .before .args .before) (c .before .before .wide .result) (c .before .before .before .before .before .before .args .bytes .now) (c .if3 .taken) (c .before .before .wide .ensures .0) (c .before .if2 .left)
 
--- src/reader.rt:80:1
 returns-4 : tie.Need-returns-4
 returns-4 c = next-marked (c .before .before .before .before .before .before .args .before) (c .before .before .wide .result) (c .before .before .before .before .before .before .args .bytes .now) (c .before .before .before .before .if1 .left) (c .if3 .left) (c .before .before .wide .ensures .0) (c .before .if2 .left)
 

@@ -7,65 +7,48 @@ use Rattle.message.specs.Reader.{foundFrom}
 use Rattle.message.proofs.Laws.{found-bounds, found-on, found-here, found-none, found-bad}
 use Rattle.message.proofs.reader.nth_option.Statement.{statement}
 use Rattle.message.proofs.reader.nth_option.Tie as tie
-use Rattle.message.proofs.reader.nth_option.Reads as reads
-use Rattle.message.proofs.reader.nth_option.Lts as lts
-use Rattle.message.proofs.reader.is_found.Reads as is-found-reads
-use Rattle.message.proofs.reader.next_option.Reads as next-option-reads
-use Rattle.message.proofs.reader.still_before.Reads as still-before-reads
 
 abbrev Inv-loop : tie.InvT-loop
-Inv-loop message wanted n at₀ last₀ left₀ at last left = foundFrom message at last wanted left ≡ foundFrom message at₀ last₀ wanted left₀
+Inv-loop message options wanted n at₀ last₀ left₀ at last left = foundFrom message at last wanted left ≡ foundFrom message at₀ last₀ wanted left₀
 
 abbrev μ-loop : tie.MeasureT-loop
-μ-loop message wanted n at₀ last₀ left₀ at last left = length message - at
+μ-loop message options wanted n at₀ last₀ left₀ at last left = length message - at
 
--- src/reader.rt:272:5
 loop-holds : tie.Need-loop-holds Inv-loop μ-loop
 loop-holds c = refl
 
--- src/reader.rt:273:15
 next-option-requires : tie.Need-next-option-requires Inv-loop μ-loop
 next-option-requires c κs = search needs
 
--- src/reader.rt:274:28
 enum-known-number : tie.Need-enum-known-number Inv-loop μ-loop
 enum-known-number c = search needs
 
--- src/reader.rt:275:20
 is-found-requires : tie.Need-is-found-requires Inv-loop μ-loop
 is-found-requires c κs = search needs
 
--- src/reader.rt:276:21
 returns : tie.Need-returns Inv-loop μ-loop
 returns c = found-here (c .before .before .before .before .before .before .before .before .args .message .now) (c .before .before .before .before .before .before .loop .at) (c .before .before .before .before .before .before .loop .last) (c .before .before .before .before .before .before .before .before .args .wanted) (c .before .before .before .before .before .before .loop .left) (c .before .before .before .before .before .next-option .result) (c .before .before .before .before .before .next-option .ensures) (c .before .before .before .number .given .0 .0) (c .before .before .before .number .given .0 .1 .0) (c .before .before .before .number .given .0 .1 .1 .0) (c .before .before .before .number .given .1) (sym (c .before .is-found .ensures) ∙ c .if1 .taken) ∙ c .before .before .before .before .before .before .loop .inv
 
--- src/reader.rt:278:17
 still-before-requires : tie.Need-still-before-requires Inv-loop μ-loop
 still-before-requires c κs = search needs
 
--- src/reader.rt:272:5
 loop-less : tie.Need-loop-less Inv-loop μ-loop
 loop-less c = let b = found-bounds (c .before .before .before .before .before .before .before .before .before .args .message .now) (c .before .before .before .before .before .before .before .loop .at) (c .before .before .before .before .before .before .before .loop .last) (c .before .before .before .before .before .before .before .before .before .args .wanted) (c .before .before .before .before .before .before .before .loop .left) (c .before .before .before .before .before .before .next-option .result) (c .before .before .before .before .before .before .next-option .ensures) (c .before .before .before .before .number .given .0 .0) (c .before .before .before .before .number .given .0 .1 .0) (c .before .before .before .before .number .given .0 .1 .1 .0) (c .before .before .before .before .number .given .1) in omega (arith, b .starts, b .ends, b .there)
 
--- src/reader.rt:272:5
 loop-again : tie.Need-loop-again Inv-loop μ-loop
 loop-again c =
     ap (foundFrom (c .before .before .before .before .before .before .before .before .before .args .message .now) (c .before .before .before .before .number .given .0 .1 .1 .0) (c .before .before .before .before .number .given .0 .0) (c .before .before .before .before .before .before .before .before .before .args .wanted)) (c .still-before .ensures)
     ∙ found-on (c .before .before .before .before .before .before .before .before .before .args .message .now) (c .before .before .before .before .before .before .before .loop .at) (c .before .before .before .before .before .before .before .loop .last) (c .before .before .before .before .before .before .before .before .before .args .wanted) (c .before .before .before .before .before .before .before .loop .left) (c .before .before .before .before .before .before .next-option .result) (c .before .before .before .before .before .before .next-option .ensures) (c .before .before .before .before .number .given .0 .0) (c .before .before .before .before .number .given .0 .1 .0) (c .before .before .before .before .number .given .0 .1 .1 .0) (c .before .before .before .before .number .given .1) (sym (c .before .before .is-found .ensures) ∙ c .before .if1 .left) ∙ c .before .before .before .before .before .before .before .loop .inv
 
--- src/reader.rt:282:26
 enum-told : tie.Need-enum-told Inv-loop μ-loop
 enum-told c = search needs
 
--- src/reader.rt:282:26
 returns-2 : tie.Need-returns-2 Inv-loop μ-loop
 returns-2 c = found-none (c .before .before .before .before .before .args .message .now) (c .before .before .before .loop .at) (c .before .before .before .loop .last) (c .before .before .before .before .before .args .wanted) (c .before .before .before .loop .left) (c .before .before .next-option .result) (c .before .before .next-option .ensures) (c .enum-told .given .1) ∙ c .before .before .before .loop .inv
 
--- src/reader.rt:283:32
 enum-told-2 : tie.Need-enum-told-2 Inv-loop μ-loop
 enum-told-2 c = search needs
 
--- src/reader.rt:283:32
 returns-3 : tie.Need-returns-3 Inv-loop μ-loop
 returns-3 c = found-bad (c .before .before .before .before .before .args .message .now) (c .before .before .before .loop .at) (c .before .before .before .loop .last) (c .before .before .before .before .before .args .wanted) (c .before .before .before .loop .left) (c .before .before .next-option .result) (c .before .before .next-option .ensures) (c .enum-told2 .given .1) ∙ c .before .before .before .loop .inv
 

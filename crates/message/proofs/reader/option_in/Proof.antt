@@ -7,72 +7,52 @@ use lib.ListN.{drop, length-drop}
 use borrow.Author.Needs.{needs}
 use Rattle.message.proofs.reader.option_in.Statement.{statement}
 use Rattle.message.proofs.reader.option_in.Tie as tie
-use Rattle.message.proofs.reader.option_in.Reads as reads
-use Rattle.message.proofs.reader.option_in.Lts as lts
-use Rattle.message.proofs.reader.extend.Reads as extend-reads
-use Rattle.message.proofs.reader.extra_bytes.Reads as extra-bytes-reads
 
--- src/reader.rt:55:9
 returns : tie.Need-returns
 returns c = option-delta (c .before .before .args .before) (c .before .before .args .delta) (c .before .before .args .len) (drop 1 (c .before .before .args .bytes .now)) (omega arith)
 
--- src/reader.rt:58:9
 returns-2 : tie.Need-returns-2
 returns-2 c = option-len (c .before .before .before .args .before) (c .before .before .before .args .delta) (c .before .before .before .args .len) (drop 1 (c .before .before .before .args .bytes .now)) (omega arith) (omega arith)
 
--- src/reader.rt:60:22
 extra-bytes-requires : tie.Need-extra-bytes-requires
 extra-bytes-requires c κs = search needs
 
--- src/reader.rt:60:18
 add-second : tie.Need-add-second
 add-second c = search needs
 
--- src/reader.rt:61:25
 extra-bytes-requires-2 : tie.Need-extra-bytes-requires-2
 extra-bytes-requires-2 c κs = search needs
 
--- src/reader.rt:61:16
 add-from : tie.Need-add-from
 add-from c = search needs
 
--- src/reader.rt:63:9
 returns-3 : tie.Need-returns-3
 returns-3 c = option-past (c .before .before .before .before .before .before .args .before) (c .before .before .before .before .before .before .args .delta) (c .before .before .before .before .before .before .args .len) (drop 1 (c .before .before .before .before .before .before .args .bytes .now)) (omega arith) (omega arith) (omega (arith, length-drop 1 (c .before .before .before .before .before .before .args .bytes .now)))
 
--- src/reader.rt:65:9
 extend-requires : tie.Need-extend-requires
 extend-requires c κs = search needs
 
--- src/reader.rt:66:8
 sub-if4 : tie.Need-sub-if4
 sub-if4 c = search needs
 
--- src/reader.rt:67:9
 returns-4 : tie.Need-returns-4
 returns-4 c = option-past (c .before .before .before .before .before .before .before .before .args .before) (c .before .before .before .before .before .before .before .before .args .delta) (c .before .before .before .before .before .before .before .before .args .len) (drop 1 (c .before .before .before .before .before .before .before .before .args .bytes .now)) (omega arith) (omega arith) (omega (arith, length-drop 1 (c .before .before .before .before .before .before .before .before .args .bytes .now), len-extended (c .before .before .before .before .before .before .before .before .args .delta) (c .before .before .before .before .before .before .before .before .args .len) (c .before .before .before .before .extra-bytes .result) (c .before .extend .result) (c .before .before .before .before .before .before .before .before .args .bytes .now) (c .before .before .before .before .extra-bytes .ensures .0) (c .before .extend .ensures .0)))
 
--- src/reader.rt:69:36
 extend-requires-2 : tie.Need-extend-requires-2
 extend-requires-2 c κs = search needs
 
--- src/reader.rt:69:18
 add-number : tie.Need-add-number
 add-number c = search needs
 
--- src/reader.rt:71:9
 returns-5 : tie.Need-returns-5
 returns-5 c = option-far (c .before .before .before .before .before .before .before .before .before .before .args .before) (c .before .before .before .before .before .before .before .before .before .before .args .delta) (c .before .before .before .before .before .before .before .before .before .before .args .len) (drop 1 (c .before .before .before .before .before .before .before .before .before .before .args .bytes .now)) (omega arith) (omega arith) (omega (arith, length-drop 1 (c .before .before .before .before .before .before .before .before .before .before .args .bytes .now), len-extended (c .before .before .before .before .before .before .before .before .before .before .args .delta) (c .before .before .before .before .before .before .before .before .before .before .args .len) (c .before .before .before .before .before .before .extra-bytes .result) (c .before .before .before .extend .result) (c .before .before .before .before .before .before .before .before .before .before .args .bytes .now) (c .before .before .before .before .before .before .extra-bytes .ensures .0) (c .before .before .before .extend .ensures .0))) (omega (arith, c .before .extend2 .ensures .0))
 
--- src/reader.rt:74:17
 cast-t12 : tie.Need-cast-t12
 cast-t12 c = search needs
 
--- src/reader.rt:76:13
 add-t11 : tie.Need-add-t11
 add-t11 c = search needs
 
--- src/reader.rt:50:1
 returns-6 : tie.Need-returns-6
 returns-6 c =
     let length = length-drop 1 (c .before .before .before .before .before .before .before .before .before .before .args .bytes .now) in

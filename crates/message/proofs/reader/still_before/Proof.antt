@@ -3,22 +3,16 @@ use borrow.Author.Tests.{eq-eqb, ne-eqb}
 use borrow.Author.Needs.{needs}
 use Rattle.message.proofs.reader.still_before.Statement.{statement}
 use Rattle.message.proofs.reader.still_before.Tie as tie
-use Rattle.message.proofs.reader.still_before.Reads as reads
-use Rattle.message.proofs.reader.still_before.Lts as lts
 
--- src/reader.rt:257:9
 returns : tie.Need-returns
 returns c = rw (ne-eqb (c .before .args .number) (c .before .args .wanted) (c .if1 .taken))
 
--- src/reader.rt:260:9
 returns-2 : tie.Need-returns-2
 returns-2 c = rw (eq-eqb (c .before .before .args .number) (c .before .before .args .wanted) (c .before .if1 .left)) (omega arith)
 
--- src/reader.rt:262:5
 sub-result : tie.Need-sub-result
 sub-result c = search needs
 
--- src/reader.rt:253:1
 returns-3 : tie.Need-returns-3
 returns-3 c = rw (eq-eqb (c .before .before .args .number) (c .before .before .args .wanted) (c .before .if1 .left))
 
