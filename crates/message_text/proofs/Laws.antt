@@ -3,15 +3,15 @@ use mathlib.Core.Path.{_≡_, refl, sym, ap, _∙_}
 use mathlib.Core.List.{List, [], _∷_, _++_, append-assoc, append-nil}
 use Prim.Native.Nat.{ℕ, _+_, _-_, _*_, _≤_, _<_}
 use native.Mathlib.Omega.{arith}
-use lib.ListN.{length, take, drop, length-drop}
+use lib.ListN.{length, take, drop, length-take, length-drop}
 use lib.Seq.{drop-drop}
 use Rattle.pieces.specs.Memory.{Put}
-use Rattle.pieces.proofs.Puts.{put-none, put-then, put-as}
+use Rattle.pieces.proofs.Puts.{put-length, put-none, put-then, put-as}
 use Rattle.message.specs.Format.{CoapOption, options, nextIn, optionsOf}
 use Rattle.message.specs.Reader.{counted, nextAt}
 use Rattle.message.specs.declared.Next.{Next}
 use Rattle.message.specs.declared.Next.the-variants.{Option, End, Malformed}
-use Rattle.message.proofs.Laws.{next-bounds, with-tells, no-options, options-more, options-end, options-bad}
+use Rattle.message.proofs.Laws.{with-tells, no-options, options-more, options-end, options-bad, at-bounds}
 use Rattle.message_fields.specs.Fields.{optionText}
 use Rattle.message_text.specs.Text.{moreText, optionsText}
 
@@ -43,13 +43,6 @@ bad at End e = absurd (let z : _≡_ {A = ℕ} 0 1 = cc in omega arith)
 bad at Malformed e = refl
 
 module _ (bytes : List ℕ) (at before : ℕ) where
-  -- an option takes a byte at least, and its value stands in the message
-  pub option-within : (number from to : ℕ) → nextAt bytes at before ≡ Option number from to → at ≤ length bytes → (at < from) × (from ≤ to) × (to ≤ length bytes)
-  option-within number from to e h =
-      let s = stands at (nextIn before (drop at bytes)) number from to e in
-      let b = next-bounds before (drop at bytes) number (s .start) (s .end) (s .is) in
-      (omega (arith, b .starts, s .from-is), omega (arith, b .ends, s .from-is, s .to-is), omega (arith, b .there, s .to-is, length-drop at bytes))
-
   module _ (list : List CoapOption) (left : List ℕ) (are : optionsOf before (drop at bytes) ≡ options list left) where
     -- the options are the one that stands there and those after it
     pub option-first : (number from to : ℕ) → nextAt bytes at before ≡ Option number from to
@@ -110,6 +103,41 @@ module _ {out₀ : List ℕ} {start : ℕ} {bytes : List ℕ} {list : List CoapO
 
   pub walked-broken : nextAt bytes at before ≡ Malformed → ⊥
   walked-broken e = options-broken bytes at before (w .rest) left (w .are) e
+
+-- What holds at each turn: the room, and the walk if the options can be read.
+pub record Walking (out₀ : List ℕ) (start : ℕ) (bytes : List ℕ) (first before : ℕ) (out : List ℕ) (k at last : ℕ) : Type 0 where
+  pub same : length out ≡ length out₀
+  pub within : at ≤ length bytes
+  pub room : k + 8 * (length bytes - at) ≤ start + 8 * (length bytes - first)
+  pub walked : (list : List CoapOption) (left : List ℕ) → optionsOf before (drop first bytes) ≡ options list left → Walked out₀ start bytes list left out k at last
+
+pub walking-start : (out : List ℕ) (start : ℕ) (bytes : List ℕ) (first before : ℕ) → first ≤ length bytes → start ≤ length out → Walking out start bytes first before out start first before
+walking-start out start bytes first before h r = record { same = refl; within = h; room = omega arith; walked = λ list left e. walked-start out start bytes list left first before r e }
+
+-- the value of an option that stands in the message
+pub value-length : (bytes : List ℕ) (from to : ℕ) → from ≤ to → to ≤ length bytes → length (take (to - from) (drop from bytes)) ≡ to - from
+value-length bytes from to h k = simp (length-take, length-drop) (omega arith)
+
+module _ {out₀ : List ℕ} {start : ℕ} {bytes : List ℕ} {first before : ℕ} {out : List ℕ} {k at last : ℕ} (w : Walking out₀ start bytes first before out k at last) where
+  pub walking-turn : (number from to : ℕ) → nextAt bytes at last ≡ Option number from to
+      → {out₁ out₂ : List ℕ} {k₁ k₂ : ℕ} → Put out k (44 ∷ []) out₁ k₁ → Put out₁ k₁ (optionText number (take (to - from) (drop from bytes))) out₂ k₂
+      → k₂ ≤ k₁ + 2 * length (take (to - from) (drop from bytes)) + 7
+      → Walking out₀ start bytes first before out₂ k₂ to number
+  walking-turn number from to e p q h =
+      let b = at-bounds bytes at last number from to e in
+      record {
+        same = put-length q ∙ put-length p ∙ w .same;
+        within = b .there;
+        room = omega (arith, h, p .to, value-length bytes from to (b .ends) (b .there), w .room, b .starts, b .ends, b .there);
+        walked = λ list left a. walked-turn (w .walked list left a) number from to e p q;
+      }
+
+  module _ (list : List CoapOption) (left : List ℕ) (are : optionsOf before (drop first bytes) ≡ options list left) where
+    pub walking-done : nextAt bytes at last ≡ End → Put out₀ start (moreText list) out k × (k + 8 * length left ≤ start + 8 * (length bytes - first))
+    walking-done e = let d = walked-done (w .walked list left are) e in (d .0, omega (arith, d .1, w .room))
+
+    pub walking-broken : nextAt bytes at last ≡ Malformed → ⊥
+    walking-broken e = walked-broken (w .walked list left are) e
 
 -- ---- all options
 

@@ -18,13 +18,16 @@ fn put_more(out: &mut [u8], start: usize, message: &[u8], first: usize, before: 
     let mut at = first;
     let mut last = before;
     loop {
-        let Next::Option { number, from, to } = message::next_option(message, at, last) else {
-            return k;
-        };
-        let comma = pieces::put_byte(out, k, b',');
-        k = message_fields::put_option(out, comma, number, &message[from..to]);
-        at = to;
-        last = number;
+        match message::next_option(message, at, last) {
+            Next::Option { number, from, to } => {
+                let comma = pieces::put_byte(out, k, b',');
+                k = message_fields::put_option(out, comma, number, &message[from..to]);
+                at = to;
+                last = number;
+            }
+            Next::End => return k,
+            Next::Malformed => return k,
+        }
     }
 }
 
@@ -34,9 +37,12 @@ pub fn put_options(out: &mut [u8], start: usize, message: &[u8], first: usize) -
     requires { ⌜ start + 8 * (length (now message) - first) + 21 ≤ length (now out) ⌝ }
     ensures { λ r. ⌜ ((list : List CoapOption) (left : List ℕ) → optionsOf 0 (drop first (now (message .entry))) ≡ options list left → Put (now (out .entry)) start (optionsText list) (now (out .exit)) r × (r + 8 * length left ≤ start + 8 * (length (now (message .entry)) - first) + 1)) ⌝ }
 {
-    let Next::Option { number, from, to } = message::next_option(message, first, 0) else {
-        return pieces::put_byte(out, start, b'-');
-    };
-    let k = message_fields::put_option(out, start, number, &message[from..to]);
-    put_more(out, k, message, to, number)
+    match message::next_option(message, first, 0) {
+        Next::Option { number, from, to } => {
+            let k = message_fields::put_option(out, start, number, &message[from..to]);
+            put_more(out, k, message, to, number)
+        }
+        Next::End => pieces::put_byte(out, start, b'-'),
+        Next::Malformed => start,
+    }
 }
