@@ -1,7 +1,7 @@
 -- Where the parts of a message that was read stand in it, and how many bytes they take. Assumes nothing.
 use mathlib.Core.Path.{_≡_, refl, sym, ap, _∙_}
 use mathlib.Core.Bool.{Bool, true, false, cond}
-use mathlib.Core.List.{List, [], _∷_}
+use mathlib.Core.List.{List, [], _∷_, _++_}
 use Prim.Native.Nat.{ℕ, zero, suc, _+_, _-_, _*_, _%_, _≤_}
 use native.Mathlib.Omega.{arith}
 use lib.ListN.{length, take, drop, length-drop, drop-of-length-le}
@@ -16,6 +16,8 @@ use Rattle.message.specs.declared.Packet.{Packet}
 use Rattle.message.specs.declared.Reading.the-variants as reading
 use Rattle.message.proofs.Laws.{next-bounds, no-options, with-tells, options-left}
 use Rattle.message.proofs.Messages.{head-tells}
+use Rattle.message_fields.specs.Fields.{headText, refusedText}
+use Rattle.message_text.specs.Text.{partsText, messageText, meaningText}
 
 -- ---- what is left after the options stands at the end
 
@@ -139,9 +141,21 @@ read-tells bytes packet e = go (meaningOf bytes) refl e
     go malformed p q = absurd (let z : _≡_ {A = ℕ} 0 1 = cc in omega arith)
     go (means m) p q = let same : packetOf (length bytes) m ≡ packet = cc in (m, rw same at (is-read bytes m p))
 
-pub refused-tells : (bytes : List ℕ) (code : ℕ) → readOf bytes ≡ reading.Refused code → meaningOf bytes ≡ malformed
+refused-tells : (bytes : List ℕ) (code : ℕ) → readOf bytes ≡ reading.Refused code → meaningOf bytes ≡ malformed
 refused-tells bytes code e = go (meaningOf bytes) refl e
   where
     go : (meaning : Meaning) → meaningOf bytes ≡ meaning → readingOf (length bytes) meaning ≡ reading.Refused code → meaningOf bytes ≡ malformed
     go malformed p q = p
     go (means m) p q = absurd (let z : _≡_ {A = ℕ} 0 1 = cc in omega arith)
+
+-- ---- the line of a message
+
+pub refused-line : (number : ℕ) (bytes : List ℕ) (code : ℕ) → readOf bytes ≡ reading.Refused code → refusedText number ≡ meaningText number (meaningOf bytes)
+refused-line number bytes code e = ap (meaningText number) (sym (refused-tells bytes code e))
+
+pub message-line : (number : ℕ) (bytes : List ℕ) (packet : Packet) (m : Message) → Read bytes packet m
+    → headText number (packet .«message_type») (packet .code) (packet .«message_id») ++ partsText m ≡ meaningText number (meaningOf bytes)
+unfolding messageText
+message-line number bytes packet m r =
+    ap (λ (p : Packet). headText number (p .«message_type») (p .code) (p .«message_id») ++ partsText m) (r .packet-is)
+    ∙ ap (meaningText number) (sym (r .means-it))
