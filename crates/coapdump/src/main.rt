@@ -2,6 +2,7 @@
 ghost use mathlib.Core.Path.{_≡_};
 ghost use Prim.Native.Nat.{_≤_};
 ghost use lib.ListN.{length, replicate};
+ghost use Rattle.coapdump.specs.Lines.{Ended};
 
 // How many lines were printed, and where the text starts that has not ended.
 struct Rest {
@@ -32,10 +33,10 @@ fn print_line(number: u64, line: &[u8], bytes: &mut [u8], out: &mut [u8])
     line_input::print(out, end);
 }
 
-// Prints each line that has ended in the text.
+// Prints each line that has ended in the text. No contract can say what is written.
 fn print_lines(number: u64, text: &[u8], bytes: &mut [u8], out: &mut [u8]) -> Rest
     requires { ⌜ (65535 ≤ length (now bytes)) × (524344 ≤ length (now out)) ⌝ }
-    ensures { λ r. ⌜ r .from ≤ length (now (text .entry)) ⌝ }
+    ensures { λ r. ⌜ Ended number (now (text .entry)) (r .number) (r .from) ⌝ }
 {
     let mut count = number;
     let mut from = 0;
