@@ -37,8 +37,8 @@ left-last (suc most) before bytes list left e = go (nextIn before bytes) refl (�
         let s = options-left most number (drop to bytes) (w .0) left (w .1) in
         let l = length-drop to bytes in
         end-of (length bytes) (length left) bytes left refl refl (to + (length (drop to bytes) - length left))
-            (more number (drop to bytes) (w .0) (w .1) ∙ drop-drop (length (drop to bytes) - length left) to bytes)
-            (omega (arith, b .there, s .short))
+        (more number (drop to bytes) (w .0) (w .1) ∙ drop-drop (length (drop to bytes) - length left) to bytes)
+        (omega (arith, b .there, s .short))
     go End p more e = let same : left ≡ bytes = cc in end-of (length bytes) (length left) bytes left refl refl 0 same (omega (arith, ap length same))
     go Malformed p more e = absurd (no-options e)
 
@@ -70,7 +70,7 @@ listed bytes t list left h are m is-token is-options is-payload =
     let long : length (m .token) ≡ t = ap length is-token ∙ length-take-le t (drop 4 bytes) (omega (arith, length-drop 4 bytes)) in
     let marked : payloadBytes (m .payload) ≡ left = ap payloadBytes is-payload ∙ o .marker in
     let last : left ≡ drop (length bytes - length left) bytes = end-of (length bytes) (length left) bytes left refl refl (4 + t + (length rest - length left))
-        (left-last (suc (length rest)) 0 rest list left are ∙ drop-drop (length rest - length left) (4 + t) bytes) (omega (arith, o .short)) in
+    (left-last (suc (length rest)) 0 rest list left are ∙ drop-drop (length rest - length left) (4 + t) bytes) (omega (arith, o .short)) in
     record {
       room = omega (arith, ap length marked, o .short);
       token = rw long (sym is-token);
