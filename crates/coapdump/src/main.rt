@@ -10,7 +10,7 @@ struct Rest {
     from: usize,
 }
 
-// Room for the bytes of the longest line, and for what it says.
+// The bytes of the longest line. Lending a buffer as a slice needs its length.
 fn bytes_buffer() -> [u8; 65535]
     ensures { λ r. ⌜ r ≡ replicate 65535 0 ⌝ }
     ensures { λ r. ⌜ 65535 ≡ length r ⌝ }
@@ -18,6 +18,7 @@ fn bytes_buffer() -> [u8; 65535]
     [0; 65535]
 }
 
+// What the longest line says: 8 bytes for each of its bytes, and 64.
 fn output_buffer() -> [u8; 524344]
     ensures { λ r. ⌜ r ≡ replicate 524344 0 ⌝ }
     ensures { λ r. ⌜ 524344 ≡ length r ⌝ }

@@ -1,5 +1,5 @@
--- Fields one after another: the names of types, a number of five digits, and what is written by the other record's name. Assumes nothing.
-use mathlib.Core.Path.{_≡_, refl, sym}
+-- The names of types, and a number of five digits. Assumes nothing.
+use mathlib.Core.Path.{_≡_, refl}
 use mathlib.Core.Bool.{Bool, true, false, cond}
 use mathlib.Core.List.{List, [], _∷_, _++_}
 use Prim.Native.Nat.{ℕ, zero, suc, _+_, _*_, _/_, _%_, _^_, _≤_, _<_}
@@ -7,15 +7,10 @@ use native.Mathlib.Nat.{pow-suc}
 use native.Mathlib.Omega.{arith}
 use lib.Dec.{ltb}
 use lib.ListN.{length, length-append}
-use borrow.Author.Tests.{eq-eqb, ne-eqb, lt-ltb, ltb-false}
-use Rattle.pieces.specs.Memory.{Put}
-use Rattle.script_text.specs.Text as text
+use borrow.Author.Tests.{eq-eqb, ne-eqb, ltb-false}
 use Rattle.script_text.specs.Text.{decimalFrom, decimal, shown}
-use Rattle.script_text.proofs.Puts.{shown-length}
+use Rattle.script_text.proofs.Laws.{shown-length}
 use Rattle.message_fields.specs.Fields.{typeText, optionText}
-
-pub of-text : {m : List ℕ} {at : ℕ} {b m′ : List ℕ} {r : ℕ} → text.Put m at b m′ r → Put m at b m′ r
-of-text p = record { room = p .room; is = p .is; to = p .to }
 
 -- ---- types
 

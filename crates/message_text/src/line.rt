@@ -1,7 +1,6 @@
 // A message's line, and that of its hex.
 use message::Reading;
 use script_fields::Decoded;
-ghost use mathlib.Core.Path.{_≡_};
 ghost use Prim.Native.Nat.{_+_, _*_, _≤_};
 ghost use lib.ListN.{length};
 ghost use Rattle.pieces.specs.Memory.{Put};

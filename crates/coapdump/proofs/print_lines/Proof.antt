@@ -1,9 +1,9 @@
-use Rattle.coapdump.proofs.Lining.{Going, going-start, going-on, going-done}
-use lib.ListN.{length}
+use mathlib.Core.Path.{_≡_, refl}
 use Prim.Native.Nat.{_-_}
-use mathlib.Core.Path.{_≡_, refl, _∙_}
 use native.Mathlib.Omega.{arith}
+use lib.ListN.{length}
 use borrow.Author.Needs.{needs}
+use Rattle.coapdump.proofs.Lining.{Going, going-start, going-on, going-done}
 use Rattle.coapdump.proofs.print_lines.Statement.{statement}
 use Rattle.coapdump.proofs.print_lines.Tie as tie
 

@@ -1,7 +1,7 @@
-use lib.ListN.{length, length-take, length-drop}
-use Prim.Native.Nat.{_≤_}
 use mathlib.Core.Path.{_≡_, refl}
+use Prim.Native.Nat.{_≤_}
 use native.Mathlib.Omega.{arith}
+use lib.ListN.{length, length-take, length-drop}
 use borrow.Author.Needs.{needs}
 use Rattle.coapdump.proofs.run.Statement.{statement}
 use Rattle.coapdump.proofs.run.Tie as tie

@@ -1,6 +1,6 @@
-use Rattle.message_fields.specs.Fields.{codeText}
-use Rattle.pieces.proofs.Puts.{put-then}
 use borrow.Author.Needs.{needs}
+use Rattle.pieces.proofs.Puts.{put-then}
+use Rattle.message_fields.specs.Fields.{codeText}
 use Rattle.message_fields.proofs.put_code.Statement.{statement}
 use Rattle.message_fields.proofs.put_code.Tie as tie
 

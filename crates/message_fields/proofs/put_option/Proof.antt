@@ -1,8 +1,8 @@
-use Rattle.message_fields.specs.Fields.{optionText}
-use Rattle.message_fields.proofs.Laws.{of-text, option-length}
-use Rattle.pieces.proofs.Puts.{put-then, put-bound}
 use native.Mathlib.Omega.{arith}
 use borrow.Author.Needs.{needs}
+use Rattle.pieces.proofs.Puts.{put-then, put-bound}
+use Rattle.message_fields.specs.Fields.{optionText}
+use Rattle.message_fields.proofs.Laws.{option-length}
 use Rattle.message_fields.proofs.put_option.Statement.{statement}
 use Rattle.message_fields.proofs.put_option.Tie as tie
 
@@ -21,7 +21,7 @@ same-length c = search needs
 returns : tie.Need-returns
 unfolding optionText
 returns c =
-    let p = put-then (of-text (c .before .before .before .before .before .before .before .before .before .before .put-decimal .ensures .0)) (put-then (c .before .before .before .before .before .before .put-byte .ensures) (of-text (c .before .before .put-shown .ensures .0))) in
+    let p = put-then (c .before .before .before .before .before .before .before .before .before .before .put-decimal .ensures .0) (put-then (c .before .before .before .before .before .before .put-byte .ensures) (c .before .before .put-shown .ensures .0)) in
     (p, omega (arith, put-bound _ p (option-length _ _ (omega (arith, c .before .before .before .before .before .before .before .before .before .before .before .before .before .before .fits .number)))))
 
 pub put-option-spec : {M : Type 1} → statement M

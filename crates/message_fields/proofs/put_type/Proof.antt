@@ -1,6 +1,6 @@
-use Rattle.message_fields.proofs.Laws.{con, non, ack, rst}
-use Rattle.pieces.proofs.Puts.{put-as}
 use borrow.Author.Needs.{needs}
+use Rattle.pieces.proofs.Puts.{put-as}
+use Rattle.message_fields.proofs.Laws.{con, non, ack, rst}
 use Rattle.message_fields.proofs.put_type.Statement.{statement}
 use Rattle.message_fields.proofs.put_type.Tie as tie
 

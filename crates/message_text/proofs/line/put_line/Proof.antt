@@ -1,13 +1,13 @@
-use Rattle.message_text.proofs.Lines.{pairs-length, long-line, bad-line, good-line, lent-first}
-use Rattle.message_text.specs.Text.{meaningText}
-use Rattle.message.specs.Format.{meaningOf}
-use Rattle.pieces.proofs.Puts.{put-as}
-use lib.ListN.{length}
-use mathlib.Core.Path.{_≡_, sym, ap, _∙_}
+use mathlib.Core.Path.{sym, ap, _∙_}
 use mathlib.Core.List.{List}
-use Prim.Native.Nat.{ℕ, _≤_, _+_, _*_}
+use Prim.Native.Nat.{ℕ}
 use native.Mathlib.Omega.{arith}
+use lib.ListN.{length}
 use borrow.Author.Needs.{needs}
+use Rattle.pieces.proofs.Puts.{put-as}
+use Rattle.message.specs.Format.{meaningOf}
+use Rattle.message_text.specs.Text.{meaningText}
+use Rattle.message_text.proofs.Lines.{pairs-length, long-line, bad-line, good-line, lent-first}
 use Rattle.message_text.proofs.line.put_line.Statement.{statement}
 use Rattle.message_text.proofs.line.put_line.Tie as tie
 

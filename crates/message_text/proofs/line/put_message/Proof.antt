@@ -1,8 +1,8 @@
-use Rattle.message_text.proofs.Places.{read-tells, refused-line, message-line}
-use Rattle.pieces.proofs.Puts.{put-then, put-as}
-use mathlib.Core.Path.{_≡_, sym, _∙_}
+use mathlib.Core.Path.{sym, _∙_}
 use native.Mathlib.Omega.{arith}
 use borrow.Author.Needs.{needs}
+use Rattle.pieces.proofs.Puts.{put-then, put-as}
+use Rattle.message_text.proofs.Places.{read-tells, refused-line, message-line}
 use Rattle.message_text.proofs.line.put_message.Statement.{statement}
 use Rattle.message_text.proofs.line.put_message.Tie as tie
 

@@ -1,10 +1,10 @@
-use Rattle.message_text.proofs.Laws.{value-length, options-over, options-broken, text-none, text-some}
-use Rattle.message.proofs.Laws.{at-bounds}
-use Rattle.pieces.proofs.Puts.{put-then, put-as}
 use mathlib.Core.Path.{sym, ap, _∙_}
-use lib.ListN.{length, length-drop}
 use native.Mathlib.Omega.{arith}
+use lib.ListN.{length, length-drop}
 use borrow.Author.Needs.{needs}
+use Rattle.pieces.proofs.Puts.{put-then, put-as}
+use Rattle.message.proofs.Laws.{at-bounds}
+use Rattle.message_text.proofs.Laws.{value-length, options-over, options-broken, text-none, text-some}
 use Rattle.message_text.proofs.options.put_options.Statement.{statement}
 use Rattle.message_text.proofs.options.put_options.Tie as tie
 
