@@ -21,5 +21,5 @@ fn main() {
         &mut payload,
         &mut out,
     );
-    script_state::print(&out, last.at);
+    line_input::print(&out, last.at);
 }

@@ -71,7 +71,7 @@ fn is_mark(text: &[u8], mark: u8) -> bool
 }
 
 // Pairs of hex digits, lower case, into the start of a buffer.
-fn decode_pairs(text: &[u8], out: &mut [u8]) -> Decoded
+pub fn decode_pairs(text: &[u8], out: &mut [u8]) -> Decoded
     requires { ⌜ length (now text) ≤ 2 * length (now out) ⌝ }
     ensures { λ r. ⌜ r ≡ pairsDecoded (now (text .entry)) ⌝ }
     ensures { λ r. ⌜ Filled r (pairsOf (now (text .entry))) (now (out .exit)) ⌝ }

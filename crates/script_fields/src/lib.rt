@@ -2,6 +2,7 @@
 mod fields;
 
 pub use fields::bytes_field;
+pub use fields::decode_pairs;
 pub use fields::number_field;
 pub use fields::option_field;
 

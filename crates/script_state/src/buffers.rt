@@ -2,14 +2,6 @@
 ghost use mathlib.Core.Path.{_≡_};
 ghost use lib.ListN.{length, replicate};
 
-// 200,001 bytes of a line that has not ended, and room for 65,536 more.
-pub fn text() -> [u8; 265537]
-    ensures { λ r. ⌜ r ≡ replicate 265537 0 ⌝ }
-    ensures { λ r. ⌜ 265537 ≡ length r ⌝ }
-{
-    [0; 265537]
-}
-
 // The bytes of a field: half of the longest line that is read.
 pub fn field() -> [u8; 100000]
     ensures { λ r. ⌜ r ≡ replicate 100000 0 ⌝ }

@@ -1,12 +1,12 @@
-// Where a script stands, and what a program does around its lines: the start, the count, the text that has not ended, the output that waits.
+// Where a script stands, and what a program does around its lines: the start, the count, the output that waits.
 use block_state::Config;
 use block_table::Table;
 ghost use mathlib.Core.Path.{_≡_};
-ghost use Prim.Native.Nat.{_+_, _-_, _%_, _^_, _≤_, min};
+ghost use Prim.Native.Nat.{_+_, _%_, _^_, _≤_};
 ghost use mathlib.Core.Bool.{cond};
 ghost use lib.Dec.{ltb};
 ghost use lib.ListN.{length};
-ghost use Rattle.pieces.specs.Memory.{patch, part, Put};
+ghost use Rattle.pieces.specs.Memory.{Put};
 ghost use Rattle.script_state.specs.Start.{scriptConfig, header, begun};
 
 pub mod buffers;
@@ -26,9 +26,6 @@ pub struct Step {
 
 // Output that is written at once.
 const MUCH: usize = 65536;
-
-// The longest line that is read, and one byte more.
-const LONG: usize = 200001;
 
 fn script_config() -> Config
     ensures { λ r. ⌜ r ≡ scriptConfig ⌝ }
@@ -75,13 +72,6 @@ pub fn counted(state: State) -> State
     }
 }
 
-// Writes what waits. No contract can say what is written.
-pub fn print(out: &[u8], at: usize)
-    requires { ⌜ at ≤ length (now out) ⌝ }
-{
-    io::write_all(1, &out[0..at]);
-}
-
 // Writes what waits, once it is much.
 pub fn flushed(out: &[u8], at: usize) -> usize
     requires { ⌜ at ≤ length (now out) ⌝ }
@@ -90,21 +80,6 @@ pub fn flushed(out: &[u8], at: usize) -> usize
     if at <= MUCH {
         return at;
     }
-    print(out, at);
+    line_input::print(out, at);
     0
-}
-
-// Moves what has not ended to the front of the buffer. More than a line can have is cut: it stays longer than any line that is read.
-pub fn keep(text: &mut [u8], from: usize, end: usize) -> usize
-    requires { ⌜ (from ≤ end) × (end ≤ length (now text)) ⌝ }
-    ensures { λ r. ⌜ r ≡ min (end - from) 200001 ⌝ }
-    ensures { λ r. ⌜ now (text .exit) ≡ patch (now (text .entry)) 0 (part (now (text .entry)) from r) ⌝ }
-{
-    if LONG < end - from {
-        pieces::move_left(text, from, 0, LONG);
-        return LONG;
-    }
-    let n = end - from;
-    pieces::move_left(text, from, 0, n);
-    n
 }

@@ -2,8 +2,8 @@ use mathlib.Core.Path.{sym}
 use native.Mathlib.Omega.{arith}
 use borrow.Author.Tests.{eq-eqb, ne-eqb}
 use borrow.Author.Needs.{needs}
-use Rattle.replay.proofs.turns_left.Statement.{statement}
-use Rattle.replay.proofs.turns_left.Tie as tie
+use Rattle.line_input.proofs.turns_left.Statement.{statement}
+use Rattle.line_input.proofs.turns_left.Tie as tie
 
 returns : tie.Need-returns
 returns c = (sym (rw (eq-eqb (c .before .args .end) (c .before .args .held) (c .if1 .taken))), c .before .pre)

@@ -1,8 +1,8 @@
 use lib.ListN.{take}
 use lib.Seq.{take-at, length-take-le}
 use borrow.Author.Needs.{needs}
-use Rattle.replay.proofs.read_on.Statement.{statement}
-use Rattle.replay.proofs.read_on.Tie as tie
+use Rattle.line_input.proofs.read_on.Statement.{statement}
+use Rattle.line_input.proofs.read_on.Tie as tie
 
 sub-read : tie.Need-sub-read
 sub-read c = search needs

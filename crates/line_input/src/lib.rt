@@ -1,0 +1,62 @@
+// The lines of standard input, of any length: read on, with the text that has not ended kept; and output that is written.
+ghost use mathlib.Core.Path.{_≡_};
+ghost use mathlib.Core.Bool.{cond};
+ghost use Prim.Native.Nat.{_-_, _≤_, _<_, min};
+ghost use lib.Dec.{eqb};
+ghost use lib.ListN.{length, take, replicate};
+ghost use Rattle.pieces.specs.Memory.{patch, part};
+
+// The longest line that any program reads, and one byte more.
+const LONG: usize = 200001;
+
+// 200,001 bytes of a line that has not ended, and room for 65,536 more. Lending it as a slice needs its length.
+pub fn text() -> [u8; 265537]
+    ensures { λ r. ⌜ r ≡ replicate 265537 0 ⌝ }
+    ensures { λ r. ⌜ 265537 ≡ length r ⌝ }
+{
+    [0; 265537]
+}
+
+// Reads on behind the bytes that are held, which stay; where the answer is no more than them, or a read failed, the input has ended.
+pub fn read_on(text: &mut [u8], held: usize) -> usize
+    requires { ⌜ held ≤ length (now text) ⌝ }
+    ensures { λ r. ⌜ (held ≤ r) × (r ≤ length (now (text .entry))) ⌝ }
+    ensures { λ _. ⌜ take held (now (text .exit)) ≡ take held (now (text .entry)) ⌝ }
+{
+    let got = libc::read(0, &mut text[held..]);
+    held + io::count(got, &text[held..])
+}
+
+// 0 once a read brings nothing; otherwise one fewer. It starts at 2^64 - 1 only so that the loop provably ends.
+pub fn turns_left(turns: u64, held: usize, end: usize) -> u64
+    requires { ⌜ 0 < turns ⌝ }
+    ensures { λ r. ⌜ r ≡ cond (eqb end held) 0 (turns - 1) ⌝ }
+    ensures { λ r. ⌜ r < turns ⌝ }
+{
+    if end == held {
+        return 0;
+    }
+    turns - 1
+}
+
+// Moves what has not ended to the front of the buffer. More than a line can have is cut: it stays longer than any line that is read.
+pub fn keep(text: &mut [u8], from: usize, end: usize) -> usize
+    requires { ⌜ (from ≤ end) × (end ≤ length (now text)) ⌝ }
+    ensures { λ r. ⌜ r ≡ min (end - from) 200001 ⌝ }
+    ensures { λ r. ⌜ now (text .exit) ≡ patch (now (text .entry)) 0 (part (now (text .entry)) from r) ⌝ }
+{
+    if LONG < end - from {
+        pieces::move_left(text, from, 0, LONG);
+        return LONG;
+    }
+    let n = end - from;
+    pieces::move_left(text, from, 0, n);
+    n
+}
+
+// Writes what waits. No contract can say what is written.
+pub fn print(out: &[u8], at: usize)
+    requires { ⌜ at ≤ length (now out) ⌝ }
+{
+    io::write_all(1, &out[0..at]);
+}

@@ -1,0 +1,30 @@
+use native.Mathlib.Omega.{arith}
+use borrow.Author.Needs.{needs}
+use Rattle.pieces.proofs.Puts.{put-then, put-bound}
+use Rattle.message_fields.specs.Fields.{optionText}
+use Rattle.message_fields.proofs.Laws.{option-length}
+use Rattle.message_fields.proofs.put_option.Statement.{statement}
+use Rattle.message_fields.proofs.put_option.Tie as tie
+
+put-decimal-requires : tie.Need-put-decimal-requires
+put-decimal-requires c κs = search needs
+
+put-byte-requires : tie.Need-put-byte-requires
+put-byte-requires c κs = search needs
+
+put-shown-requires : tie.Need-put-shown-requires
+put-shown-requires c κs = search needs
+
+same-length : tie.Need-same-length
+same-length c = search needs
+
+returns : tie.Need-returns
+unfolding optionText
+returns c =
+    let p = put-then (c .before .before .before .before .before .before .before .before .before .before .put-decimal .ensures .0) (put-then (c .before .before .before .before .before .before .put-byte .ensures) (c .before .before .put-shown .ensures .0)) in
+    (p, omega (arith, put-bound _ p (option-length _ _ (omega (arith, c .before .before .before .before .before .before .before .before .before .before .before .before .before .before .fits .number)))))
+
+pub put-option-spec : {M : Type 1} → statement M
+put-option-spec =
+    tie.close
+    (tie.spec put-decimal-requires put-byte-requires put-shown-requires same-length returns)

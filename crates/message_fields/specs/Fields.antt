@@ -1,0 +1,36 @@
+-- The fields of a message's line, as lists of bytes.
+use Prim.Native.Nat.{ℕ, _+_, _/_, _%_}
+use mathlib.Core.Bool.{cond}
+use mathlib.Core.List.{List, [], _∷_, _++_}
+use lib.Dec.{eqb}
+use Rattle.script_text.specs.Text.{decimal, shown}
+
+-- `CON`, `NON`, `ACK` or `RST`.
+unfoldable pub typeText : ℕ → List ℕ
+typeText kind =
+    cond (eqb kind 0) (67 ∷ 79 ∷ 78 ∷ [])
+    (cond (eqb kind 1) (78 ∷ 79 ∷ 78 ∷ [])
+    (cond (eqb kind 2) (65 ∷ 67 ∷ 75 ∷ [])
+    (82 ∷ 83 ∷ 84 ∷ [])))
+
+-- `c.dd`: the class, a dot, and the detail in two digits.
+unfoldable pub codeText : ℕ → List ℕ
+codeText code = (48 + code / 32) ∷ 46 ∷ (48 + code % 32 / 10) ∷ (48 + code % 32 % 10) ∷ []
+
+-- `N type code id`, each with a space behind it.
+unfoldable pub headText : ℕ → ℕ → ℕ → ℕ → List ℕ
+headText number kind code id = decimal number ++ (32 ∷ typeText kind ++ (32 ∷ codeText code ++ (32 ∷ decimal id ++ (32 ∷ []))))
+
+-- `number:hex`, and a dot for an empty value.
+unfoldable pub optionText : ℕ → List ℕ → List ℕ
+optionText number value = decimal number ++ (58 ∷ shown value)
+
+-- `N refused-11 - - - - -`, and a line end.
+unfoldable pub refusedText : ℕ → List ℕ
+refusedText number =
+    decimal number ++ (32 ∷ 114 ∷ 101 ∷ 102 ∷ 117 ∷ 115 ∷ 101 ∷ 100 ∷ 45 ∷ 49 ∷ 49 ∷ 32 ∷ 45 ∷ 32 ∷ 45 ∷ 32 ∷ 45 ∷ 32 ∷ 45 ∷ 32 ∷ 45 ∷ 10 ∷ [])
+
+-- `N unreadable - - - - -`, and a line end.
+unfoldable pub unreadableText : ℕ → List ℕ
+unreadableText number =
+    decimal number ++ (32 ∷ 117 ∷ 110 ∷ 114 ∷ 101 ∷ 97 ∷ 100 ∷ 97 ∷ 98 ∷ 108 ∷ 101 ∷ 32 ∷ 45 ∷ 32 ∷ 45 ∷ 32 ∷ 45 ∷ 32 ∷ 45 ∷ 32 ∷ 45 ∷ 10 ∷ [])

@@ -1,0 +1,7 @@
+// The line of a message: its parts, found where they stand in it and never copied.
+mod line;
+mod options;
+mod parts;
+
+pub use line::put_line;
+pub use line::put_message;
