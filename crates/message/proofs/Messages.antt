@@ -167,7 +167,7 @@ pub record Meant (bytes : List ℕ) (m : format.Message) : Type 0 where
   pub listed : optionsOf 0 (drop (getD bytes 0 0 % 16) (drop 4 bytes)) ≡ options (m .options) left
   pub payload-is : m .payload ≡ drop 1 left
 
-no-meaning : {m : format.Message} → malformed ≡ format.means m → ⊥
+pub no-meaning : {m : format.Message} → malformed ≡ format.means m → ⊥
 no-meaning e = let z : _≡_ {A = ℕ} 0 1 = cc in omega arith
 
 pub meaning-tells : (bytes : List ℕ) (m : format.Message) → meaningOf bytes ≡ format.means m → Meant bytes m

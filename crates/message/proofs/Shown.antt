@@ -2,42 +2,112 @@
 use mathlib.Core.Path.{_≡_, refl, sym, ap, _∙_}
 use mathlib.Core.Bool.{Bool, true, false, cond, _&&_}
 use mathlib.Core.List.{List, [], _∷_, _++_, append-assoc}
-use Prim.Native.Nat.{ℕ, suc, _+_, _-_, _%_, _≤_, _<_}
+use Prim.Native.Nat.{ℕ, zero, suc, _+_, _-_, _*_, _%_, _≤_}
 use native.Mathlib.Omega.{arith}
 use lib.Dec.{eqb}
-use lib.ListN.{length, take, drop, getD, length-append, length-drop}
+use lib.ListN.{length, take, drop, length-append, length-drop, drop-of-length-le}
 use lib.Seq.{drop-drop, length-take-le, take-at, drop-at, take-all}
 use borrow.Author.Tests.{eqb-true, eqb-false, eq-eqb, ne-eqb}
 use Rattle.pieces.specs.Memory.{within}
 use Rattle.pieces.proofs.Memory.{within-there}
-use Rattle.message.specs.Format.{CoapOption, Message, Bytes, optionsBytes, payloadBytes, headBytes, bytesOf, nextIn, Options, broken, options, withOption, optionsOf, meaningOf, means}
+use Rattle.message.specs.Format.{CoapOption, Message, Bytes, optionsBytes, payloadBytes, headBytes, bytesOf, nextIn, Options, broken, options, withOption, onNext, optionsIn, optionsOf, malformed, means, headOk, meaningWith, meaningOf}
 use Rattle.message.specs.Reader.{packetOf, withoutPayload, counted, nextAt, foundFrom, Value, none, value, nthOf, valueAt}
 use Rattle.message.specs.declared.Next.{Next}
 use Rattle.message.specs.declared.Next.the-variants.{Option, End, Malformed}
 use Rattle.message.proofs.Laws.{next-bounds, options-more, options-end, options-bad, options-left, no-options, with-tells, found-none, found-on, found-here}
-use Rattle.message.proofs.Messages.{head-tells, meaning-tells}
+use Rattle.message.proofs.Messages.{no-meaning, head-tells}
 use Rattle.message.proofs.WriteBack.{write-back}
 
--- a payload comes last, after its marker or nothing
-marker : (payload : List ℕ) → (mark : List ℕ) × (payloadBytes payload ≡ mark ++ payload)
-unfolding payloadBytes
-marker [] = ([], refl)
-marker (b ∷ payload) = (255 ∷ [], refl)
+-- ---- what is left after the options stands at the end
+
+end-of : (n l : ℕ) (bytes left : List ℕ) → n ≡ length bytes → l ≡ length left → (k : ℕ) → left ≡ drop k bytes → k + l ≡ n → left ≡ drop (n - l) bytes
+end-of n l bytes left is-n is-l k e h = let q : k ≡ n - l = omega arith in e ∙ ap (λ (i : ℕ). drop i bytes) q
+
+pub left-last : (most before : ℕ) (bytes : List ℕ) (list : List CoapOption) (left : List ℕ) → optionsIn most before bytes ≡ options list left → left ≡ drop (length bytes - length left) bytes
+unfolding optionsIn
+left-last zero before bytes list left e = absurd (no-options e)
+left-last (suc most) before bytes list left e = go (nextIn before bytes) refl (λ number rest l. left-last most number rest l left) e
+  where
+    go : (n : Next) → nextIn before bytes ≡ n → ((number : ℕ) (rest : List ℕ) (l : List CoapOption) → optionsIn most number rest ≡ options l left → left ≡ drop (length rest - length left) rest)
+        → onNext bytes (λ number rest. optionsIn most number rest) n ≡ options list left → left ≡ drop (length bytes - length left) bytes
+    go (Option number from to) p more e =
+        let b = next-bounds before bytes number from to p in
+        let w = with-tells number (take (to - from) (drop from bytes)) (optionsIn most number (drop to bytes)) list left e in
+        let s = options-left most number (drop to bytes) (w .0) left (w .1) in
+        let l = length-drop to bytes in
+        end-of (length bytes) (length left) bytes left refl refl (to + (length (drop to bytes) - length left))
+        (more number (drop to bytes) (w .0) (w .1) ∙ drop-drop (length (drop to bytes) - length left) to bytes)
+        (omega (arith, b .there, s .short))
+    go End p more e = let same : left ≡ bytes = cc in end-of (length bytes) (length left) bytes left refl refl 0 same (omega (arith, ap length same))
+    go Malformed p more e = absurd (no-options e)
+
+-- ---- the parts
+
+pub record Parts (bytes : List ℕ) (m : Message) : Type 0 where
+  pub room : 4 + length (m .token) + length (payloadBytes (m .payload)) ≤ length bytes
+  pub token : take (length (m .token)) (drop 4 bytes) ≡ m .token
+  pub options-are : optionsOf 0 (drop (4 + length (m .token)) bytes) ≡ options (m .options) (payloadBytes (m .payload))
+  pub payload : drop (length bytes - length (m .payload)) bytes ≡ m .payload
+
+-- the payload is what is left, without its marker
+payload-last : (bytes left : List ℕ) → left ≡ drop (length bytes - length left) bytes → length left ≤ length bytes → drop (length bytes - length (drop 1 left)) bytes ≡ drop 1 left
+payload-last bytes [] e h = drop-of-length-le bytes {i = length bytes - 0} (omega arith)
+payload-last bytes (x ∷ left) e h =
+    let q : length bytes - length left ≡ length bytes - length (x ∷ left) + 1 = omega arith in
+    ap (λ (i : ℕ). drop i bytes) q ∙ sym (drop-drop 1 (length bytes - length (x ∷ left)) bytes) ∙ ap (drop 1) (sym e)
+
+-- a message of these bytes, from its token's length and what its options are
+listed : (bytes : List ℕ) (t : ℕ) (list : List CoapOption) (left : List ℕ) → 4 + t ≤ length bytes → optionsOf 0 (drop (4 + t) bytes) ≡ options list left
+    → (m : Message) → m .token ≡ take t (drop 4 bytes) → m .options ≡ list → m .payload ≡ drop 1 left → Parts bytes m
+listed bytes t list left h are m is-token is-options is-payload =
+    let rest : List ℕ = drop (4 + t) bytes in
+    let o = options-left (suc (length rest)) 0 rest list left are in
+    let d : length rest ≡ length bytes - (4 + t) = length-drop (4 + t) bytes in
+    let long : length (m .token) ≡ t = ap length is-token ∙ length-take-le t (drop 4 bytes) (omega (arith, length-drop 4 bytes)) in
+    let marked : payloadBytes (m .payload) ≡ left = ap payloadBytes is-payload ∙ o .marker in
+    let last : left ≡ drop (length bytes - length left) bytes = end-of (length bytes) (length left) bytes left refl refl (4 + t + (length rest - length left))
+    (left-last (suc (length rest)) 0 rest list left are ∙ drop-drop (length rest - length left) (4 + t) bytes) (omega (arith, o .short)) in
+    record {
+      room = omega (arith, ap length marked, o .short);
+      token = rw long (sym is-token);
+      options-are = rw (long, marked, is-options) are;
+      payload = rw is-payload (payload-last bytes left last (omega (arith, o .short)));
+    }
+
+-- a message that was read stands in its bytes
+pub parts : (bytes : List ℕ) (m : Message) → meaningOf bytes ≡ means m → Parts bytes m
+unfolding meaningOf
+parts [] m e = absurd (no-meaning e)
+parts (a ∷ []) m e = absurd (no-meaning e)
+parts (a ∷ b ∷ []) m e = absurd (no-meaning e)
+parts (a ∷ b ∷ x ∷ []) m e = absurd (no-meaning e)
+parts (a ∷ b ∷ x ∷ y ∷ rest) m e = go (headOk a b (length rest)) refl (optionsOf 0 (drop (a % 16) rest)) refl e
+  where
+    go : (ok : Bool) → headOk a b (length rest) ≡ ok → (o : Options) → optionsOf 0 (drop (a % 16) rest) ≡ o → cond ok (meaningWith a b (x * 256 + y) rest o) malformed ≡ means m → Parts (a ∷ b ∷ x ∷ y ∷ rest) m
+    go false h o p q = absurd (no-meaning q)
+    go true h broken p q = absurd (no-meaning q)
+    go true h (options list left) p q =
+        let t = head-tells a b (length rest) h in
+        let n : length (a ∷ b ∷ x ∷ y ∷ rest) ≡ 4 + length rest = omega arith in
+        listed (a ∷ b ∷ x ∷ y ∷ rest) (a % 16) list left (omega (arith, t .there)) (ap (optionsOf 0) (sym (drop-drop (a % 16) 4 (a ∷ b ∷ x ∷ y ∷ rest))) ∙ p) m (cc) (cc) (cc)
 
 module _ (bytes : List ℕ) (m : Message) (is : meaningOf bytes ≡ means m) where
   -- The options that are walked from where they begin are those of the message, up to the payload.
   pub options-shown : optionsOf 0 (drop (4 + length (m .token)) bytes) ≡ options (m .options) (payloadBytes (m .payload))
-  options-shown =
-      let t = meaning-tells bytes m is in
-      let first : ℕ = getD bytes 0 0 in
-      let rest : List ℕ = drop (first % 16) (drop 4 bytes) in
-      let h = head-tells first (getD bytes 1 0) (length bytes - 4) (t .ok) in
-      let token : length (m .token) ≡ first % 16 = ap length (t .token-is) ∙ length-take-le (first % 16) (drop 4 bytes) (omega (arith, h .there, length-drop 4 bytes)) in
-      let marker = options-left (suc (length rest)) 0 rest (m .options) (t .left) (t .listed) .marker in
-      ap (λ (n : ℕ). optionsOf 0 (drop (4 + n) bytes)) token
-      ∙ ap (optionsOf 0) (sym (drop-drop (first % 16) 4 bytes))
-      ∙ t .listed
-      ∙ ap (options (m .options)) (sym (ap payloadBytes (t .payload-is) ∙ marker))
+  options-shown = parts bytes m is .options-are
+
+  pub token-shown : within bytes (packetOf (length bytes) m .token .from) (packetOf (length bytes) m .token .to) ≡ m .token
+  token-shown =
+      let p = parts bytes m is in
+      let span : 4 + length (m .token) - 4 ≡ length (m .token) = omega arith in
+      sym (within-there bytes 4 (4 + length (m .token)) (omega arith) (omega (arith, p .room))) ∙ ap (λ (i : ℕ). take i (drop 4 bytes)) span ∙ p .token
+
+  pub payload-shown : within bytes (packetOf (length bytes) m .payload .from) (packetOf (length bytes) m .payload .to) ≡ m .payload
+  payload-shown =
+      let n : ℕ = length bytes in
+      sym (within-there bytes (n - length (m .payload)) n (omega arith) (omega arith))
+      ∙ take-all (n - (n - length (m .payload))) (drop (n - length (m .payload)) bytes) (omega (arith, length-drop (n - length (m .payload)) bytes))
+      ∙ parts bytes m is .payload
 
   module _ (b : Bytes bytes) where
     same : bytes ≡ headBytes m ++ (m .token ++ (optionsBytes 0 (m .options) ++ payloadBytes (m .payload)))
@@ -47,13 +117,6 @@ module _ (bytes : List ℕ) (m : Message) (is : meaningOf bytes ≡ means m) whe
     sizes : length bytes ≡ 4 + (length (m .token) + (length (optionsBytes 0 (m .options)) + length (payloadBytes (m .payload))))
     unfolding headBytes
     sizes = omega (arith, simp length-append at (ap length same))
-
-    pub token-shown : within bytes (packetOf (length bytes) m .token .from) (packetOf (length bytes) m .token .to) ≡ m .token
-    unfolding headBytes
-    token-shown =
-        let span : 4 + length (m .token) - 4 ≡ length (m .token) = omega arith in
-        sym (within-there bytes 4 (4 + length (m .token)) (omega arith) (omega (arith, sizes)))
-        ∙ rw (span, same) (take-at (m .token) (optionsBytes 0 (m .options) ++ payloadBytes (m .payload)) (length (m .token)) refl)
 
     pub options-bytes : within bytes (packetOf (length bytes) m .options .from) (packetOf (length bytes) m .options .to) ≡ optionsBytes 0 (m .options)
     unfolding headBytes
@@ -67,17 +130,6 @@ module _ (bytes : List ℕ) (m : Message) (is : meaningOf bytes ≡ means m) whe
         sym (within-there bytes from to (omega (arith, sizes)) (omega arith))
         ∙ ap (take (to - from)) (ap (drop from) whole ∙ drop-at front (optionsBytes 0 (m .options) ++ payloadBytes (m .payload)) from long)
         ∙ take-at (optionsBytes 0 (m .options)) (payloadBytes (m .payload)) (to - from) (sym span)
-
-    pub payload-shown : within bytes (packetOf (length bytes) m .payload .from) (packetOf (length bytes) m .payload .to) ≡ m .payload
-    payload-shown =
-        let mark = marker (m .payload) in
-        let front : List ℕ = headBytes m ++ (m .token ++ (optionsBytes 0 (m .options) ++ mark .0)) in
-        let whole : bytes ≡ front ++ m .payload = same ∙ ap (λ (l : List ℕ). headBytes m ++ (m .token ++ (optionsBytes 0 (m .options) ++ l))) (mark .1) ∙ simp append-assoc in
-        let n : length bytes ≡ length front + length (m .payload) = ap length whole ∙ length-append front (m .payload) in
-        let at : length front ≡ length bytes - length (m .payload) = omega arith in
-        sym (within-there bytes (length bytes - length (m .payload)) (length bytes) (omega arith) (omega arith))
-        ∙ ap (λ (l : List ℕ). take (length bytes - (length bytes - length (m .payload))) l) (ap (drop (length bytes - length (m .payload))) whole ∙ drop-at front (m .payload) (length bytes - length (m .payload)) at)
-        ∙ take-all (length bytes - (length bytes - length (m .payload))) (m .payload) (omega arith)
 
     -- `bare` is the length that the writer needs for the message without its payload.
     pub bare-is : packetOf (length bytes) m .options .to ≡ length (bytesOf (withoutPayload m))
@@ -160,7 +212,4 @@ shown-from bytes wanted (o ∷ list) left at before n h e = go (eqb (o .number) 
 pub found-shown : (bytes : List ℕ) (m : Message) → meaningOf bytes ≡ means m → (wanted n : ℕ)
     → valueAt bytes (foundFrom bytes (packetOf (length bytes) m .options .from) 0 wanted n) ≡ nthOf wanted n (m .options)
 found-shown bytes m is wanted n =
-    let t = meaning-tells bytes m is in
-    let h = head-tells (getD bytes 0 0) (getD bytes 1 0) (length bytes - 4) (t .ok) in
-    let token : length (m .token) ≡ getD bytes 0 0 % 16 = ap length (t .token-is) ∙ length-take-le (getD bytes 0 0 % 16) (drop 4 bytes) (omega (arith, h .there, length-drop 4 bytes)) in
-    shown-from bytes wanted (m .options) (payloadBytes (m .payload)) (4 + length (m .token)) 0 n (omega (arith, h .there, t .long)) (options-shown bytes m is)
+    shown-from bytes wanted (m .options) (payloadBytes (m .payload)) (4 + length (m .token)) 0 n (omega (arith, parts bytes m is .room)) (options-shown bytes m is)
