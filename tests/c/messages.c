@@ -595,14 +595,25 @@ static void *many_options(void *len_of)
     return NULL;
 }
 
-/* On a stack of 64 KiB, which does not hold even a byte for each. */
-static void small_stack(size_t len)
+/* The same written, to a message of 65,535 bytes. */
+static void *many_written(void *unused)
+{
+    static const uint32_t zeros[65531];
+    struct block_handler_written written = block_handler_message_write(
+        out.bytes, 65535, 0, 1, 0, text, 0, zeros, 65531, zeros, 65531, text, 0, text, 0);
+    CHECK(written.refusal == 0 && written.len == 65535 && memcmp(out.bytes, many, 65535) == 0);
+    CHECK(untouched(65535));
+    return unused;
+}
+
+/* On a stack of 64 KiB, which holds not even two bytes for each. */
+static void small_stack(void *run(void *), size_t len)
 {
     pthread_attr_t small;
     pthread_t thread;
     many[0] = 0x40, many[1] = 1;
     CHECK(pthread_attr_init(&small) == 0 && pthread_attr_setstacksize(&small, 65536) == 0);
-    bool started = pthread_create(&thread, &small, many_options, &len) == 0;
+    bool started = pthread_create(&thread, &small, run, &len) == 0;
     CHECK(started && pthread_join(thread, NULL) == 0);
 }
 
@@ -645,8 +656,9 @@ int main(void)
     random_messages();
     random_bytes();
     to_the_handler();
-    small_stack(65535);
-    small_stack(sizeof many);
+    small_stack(many_options, 65535);
+    small_stack(many_options, sizeof many);
+    small_stack(many_written, 65535);
     printf("messages.c: %d checks, %d faults\n", checks, faults);
     return faults == 0 ? 0 : 1;
 }
