@@ -73,8 +73,8 @@ pub struct Table {
 #[repr(C)]
 #[derive(Debug, Clone, Copy, PartialEq, Eq)]
 pub struct Part {
-    from: usize,
-    to: usize,
+    pub from: usize,
+    pub to: usize,
 }
 
 /// The kinds of a reply; any other is a refusal.
@@ -365,14 +365,6 @@ impl OptionAt {
 }
 
 impl Part {
-    pub fn from(self) -> usize {
-        self.from
-    }
-
-    pub fn to(self) -> usize {
-        self.to
-    }
-
     /// The part of a memory; empty if it isn't there.
     pub fn of(self, memory: &[u8]) -> &[u8] {
         memory.get(self.from..self.to).unwrap_or_default()

@@ -75,12 +75,12 @@ impl<'a> Message<'a> {
 
     /// Its options, in order: numbers, which never fall, and values.
     pub fn options(&self) -> Options<'a> {
-        Options { bytes: self.bytes, at: self.read.options.from(), before: 0 }
+        Options { bytes: self.bytes, at: self.read.options.from, before: 0 }
     }
 
     /// The value of its n-th option of this number, the first being 0.
     pub fn option(&self, number: u16, n: usize) -> Option<&'a [u8]> {
-        let (_, value) = ffi::nth_option(self.bytes, self.read.options.from(), number, n).option()?;
+        let (_, value) = ffi::nth_option(self.bytes, self.read.options.from, number, n).option()?;
         Some(value.of(self.bytes))
     }
 
@@ -108,13 +108,13 @@ impl<'a> Iterator for Options<'a> {
 
     fn next(&mut self) -> Option<Self::Item> {
         let (number, value) = ffi::next_option(self.bytes, self.at, self.before).option()?;
-        self.at = value.to();
+        self.at = value.to;
         self.before = number;
         Some((number, value.of(self.bytes)))
     }
 }
 
-/// The options end in one place.
+/// Past the last one there is never another.
 impl FusedIterator for Options<'_> {}
 
 /// What to write: a message in parts.
