@@ -1,7 +1,7 @@
-//! The boundary to the static library: its structs and functions as include/block_handler.h declares them, and one safe function for
-//! each. All `unsafe` of the crate is here.
+//! The boundary to the static libraries: their structs and functions as the headers in include/ declare them, and one safe function
+//! for each. All `unsafe` of the crate is here.
 
-use crate::{BlockHandlerConfig, BlockValue, Refusal, Request, Response};
+use crate::{BlockHandlerConfig, BlockValue, Draft, Refusal, Request, Response};
 
 #[repr(C)]
 #[derive(Debug, Clone, Copy, PartialEq, Eq)]
@@ -71,10 +71,10 @@ pub struct Table {
 
 /// The bytes from..to.
 #[repr(C)]
-#[derive(Debug, Clone, Copy)]
+#[derive(Debug, Clone, Copy, PartialEq, Eq)]
 pub struct Part {
-    from: usize,
-    to: usize,
+    pub from: usize,
+    pub to: usize,
 }
 
 /// The kinds of a reply; any other is a refusal.
@@ -108,6 +108,37 @@ pub struct Reply {
 struct OptionBytes {
     len: usize,
     bytes: [u8; 2],
+}
+
+/// A message that was read, in numbers; or a refusal, and then all else is 0.
+#[repr(C)]
+#[derive(Debug, Clone, Copy, PartialEq, Eq)]
+pub struct ReadMessage {
+    pub refusal: u8,
+    pub message_type: u8,
+    pub code: u8,
+    pub message_id: u16,
+    pub bare: usize,
+    pub token: Part,
+    pub options: Part,
+    pub payload: Part,
+}
+
+/// What stands where an option may begin.
+#[repr(C)]
+#[derive(Debug, Clone, Copy, PartialEq, Eq)]
+pub struct OptionAt {
+    /// 1 for an option.
+    kind: u8,
+    number: u16,
+    value: Part,
+}
+
+#[repr(C)]
+#[derive(Debug, Clone, Copy, PartialEq, Eq)]
+pub struct Written {
+    pub refusal: u8,
+    pub len: usize,
 }
 
 extern "C" {
@@ -151,6 +182,27 @@ extern "C" {
         payload: *const u8,
         payload_len: usize,
     ) -> Reply;
+    fn block_handler_message_read(message: *const u8, message_len: usize) -> ReadMessage;
+    fn block_handler_next_option(message: *const u8, message_len: usize, at: usize, before: u16) -> OptionAt;
+    fn block_handler_nth_option(message: *const u8, message_len: usize, options: usize, number: u16, n: usize) -> OptionAt;
+    fn block_handler_message_write(
+        out: *mut u8,
+        out_len: usize,
+        message_type: u8,
+        code: u8,
+        message_id: u16,
+        token: *const u8,
+        token_len: usize,
+        numbers: *const u32,
+        numbers_len: usize,
+        lengths: *const u32,
+        lengths_len: usize,
+        values: *const u8,
+        values_len: usize,
+        payload: *const u8,
+        payload_len: usize,
+    ) -> Written;
+    fn block_handler_option_length(number: u16, len: usize) -> u8;
 }
 
 /// An empty table with clock 0.
@@ -229,6 +281,56 @@ pub fn response(table: &mut Table, config: Config, upload: &[u8], memory: &mut [
     }
 }
 
+/// Reads a message.
+pub fn message_read(message: &[u8]) -> ReadMessage {
+    // SAFETY: pointer and length are those of one slice, which is only read; the library keeps no pointer.
+    unsafe { block_handler_message_read(message.as_ptr(), message.len()) }
+}
+
+/// What stands at an index of a message, after an option of the number `before`.
+pub fn next_option(message: &[u8], at: usize, before: u16) -> OptionAt {
+    // SAFETY: as in `message_read`. Any index and number may be passed.
+    unsafe { block_handler_next_option(message.as_ptr(), message.len(), at, before) }
+}
+
+/// The n-th option of a number, of a message whose options begin at `options`.
+pub fn nth_option(message: &[u8], options: usize, number: u16, n: usize) -> OptionAt {
+    // SAFETY: as in `message_read`. Any index and numbers may be passed.
+    unsafe { block_handler_nth_option(message.as_ptr(), message.len(), options, number, n) }
+}
+
+/// Writes a message to the start of `out`.
+pub fn message_write(out: &mut [u8], draft: &Draft) -> Written {
+    let Draft { message_type, code, message_id, token, numbers, lengths, values, payload } = *draft;
+    // SAFETY: each pointer and the length after it are those of one slice, never null. `out` is borrowed exclusively, so it overlaps
+    // nothing; the rest is only read. Any numbers and lengths may be passed, and the library keeps no pointer.
+    unsafe {
+        block_handler_message_write(
+            out.as_mut_ptr(),
+            out.len(),
+            message_type as u8,
+            code,
+            message_id,
+            token.as_ptr(),
+            token.len(),
+            numbers.as_ptr(),
+            numbers.len(),
+            lengths.as_ptr(),
+            lengths.len(),
+            values.as_ptr(),
+            values.len(),
+            payload.as_ptr(),
+            payload.len(),
+        )
+    }
+}
+
+/// 0 if the table has no such option, 1 if its value may have this length, 2 if not.
+pub fn option_length(number: u16, len: usize) -> u8 {
+    // SAFETY: numbers go in and a number comes out.
+    unsafe { block_handler_option_length(number, len) }
+}
+
 impl From<BlockHandlerConfig> for Config {
     /// A duration that has no count of milliseconds in 64 bits is off the limits, and so is what stands for it.
     fn from(config: BlockHandlerConfig) -> Self {
@@ -255,6 +357,13 @@ impl Block {
     }
 }
 
+impl OptionAt {
+    /// The number, and where the value stands, of an option that is there.
+    pub fn option(self) -> Option<(u16, Part)> {
+        (self.kind == 1).then_some((self.number, self.value))
+    }
+}
+
 impl Part {
     /// The part of a memory; empty if it isn't there.
     pub fn of(self, memory: &[u8]) -> &[u8] {
@@ -276,7 +385,7 @@ mod tests {
     use super::*;
     use crate::refusal;
 
-    /// The sizes and offsets that the header asserts, too.
+    /// The sizes and offsets that the headers assert, too.
     #[test]
     fn layout() {
         assert_eq!([size_of::<bool>(), size_of::<usize>()], [1, 8]);
@@ -299,6 +408,17 @@ mod tests {
         assert_eq!((size_of::<Reply>(), reply, more), (56, [0, 1, 2, 4], [12, 24, 40]));
         assert_eq!([size_of::<Part>(), offset_of!(Part, from), offset_of!(Part, to)], [16, 0, 8]);
         assert_eq!([size_of::<OptionBytes>(), offset_of!(OptionBytes, len), offset_of!(OptionBytes, bytes)], [16, 0, 8]);
+    }
+
+    #[test]
+    fn layout_of_messages() {
+        let head = [offset_of!(ReadMessage, refusal), offset_of!(ReadMessage, message_type), offset_of!(ReadMessage, code)];
+        let numbers = [offset_of!(ReadMessage, message_id), offset_of!(ReadMessage, bare)];
+        let parts = [offset_of!(ReadMessage, token), offset_of!(ReadMessage, options), offset_of!(ReadMessage, payload)];
+        assert_eq!((size_of::<ReadMessage>(), head, numbers, parts), (64, [0, 1, 2], [4, 8], [16, 32, 48]));
+        let option = [offset_of!(OptionAt, kind), offset_of!(OptionAt, number), offset_of!(OptionAt, value)];
+        assert_eq!((size_of::<OptionAt>(), option), (24, [0, 2, 8]));
+        assert_eq!([size_of::<Written>(), offset_of!(Written, refusal), offset_of!(Written, len)], [16, 0, 8]);
     }
 
     #[test]

@@ -5,8 +5,11 @@
 //! static library and gives it a Rust face, with coap-lite's names where they fit. It has no dependencies, and it copies nothing:
 //! bodies, chunks and heads are borrowed from the handler's memories or from the message itself.
 //!
-//! Packets, sockets and clocks stay with the caller. A call is told the time, a key that tells transfers apart (as sender, method and
-//! path), the bytes of the two Block options and the payload.
+//! Sockets and clocks stay with the caller. A call is told the time, a key that tells transfers apart (as sender, method and path), the
+//! bytes of the two Block options and the payload.
+//!
+//! [`Message`] reads a CoAP message (RFC 7252) where it stands, and [`Draft`] writes one into a lent buffer: ported and proved likewise,
+//! from coap-lite's `Packet`. What is no message is refused ([`Malformed`]), and so is what has no encoding ([`NotWritten`]).
 //!
 //! # A price list, pushed in blocks
 //!
@@ -35,6 +38,27 @@
 //!         other => panic!("not expected: {other:?}"),
 //!     }
 //! }
+//! # Ok::<(), Box<dyn std::error::Error>>(())
+//! ```
+//!
+//! # The same, from the bytes of a message
+//!
+//! ```
+//! use block_handler::{BlockHandler, BlockHandlerConfig, Message, Request, RequestAnswer};
+//!
+//! let mut handler = BlockHandler::new(BlockHandlerConfig::default());
+//! let datagram = b"\x41\x03\x12\x34\x07\xb6prices\xd1\x03\x02\xffmilk 1.19"; // PUT /prices, block 0 of 64 bytes, the last
+//!
+//! let message = Message::from_bytes(datagram)?;
+//! let request = Request {
+//!     key: b"lane 7 PUT /prices",
+//!     bare: message.bare(),
+//!     block1: message.option(27, 0),
+//!     block2: message.option(23, 0),
+//!     payload: message.payload(),
+//!     ..Request::default()
+//! };
+//! assert_eq!(handler.intercept_request(&request)?.body(), b"milk 1.19");
 //! # Ok::<(), Box<dyn std::error::Error>>(())
 //! ```
 //!
@@ -72,8 +96,9 @@
 //!
 //! # Building
 //!
-//! The build script looks for `libhandler_c.a` in `../target/staticlib`, where `rt staticlib handler_c` writes it, or in the folder that
-//! the environment variable `BLOCK_HANDLER_LIB` names. The archive is for x86-64 Linux.
+//! The build script looks for `libhandler_c.a` and `libmessage_c.a` in `../target/staticlib`, where `rt staticlib handler_c` and
+//! `rt staticlib message_c` write them, or in the folder that the environment variable `BLOCK_HANDLER_LIB` names. The archives are for
+//! x86-64 Linux.
 
 #![deny(unsafe_code)]
 #![warn(missing_docs)]
@@ -82,10 +107,12 @@ mod block_value;
 #[allow(unsafe_code)]
 mod ffi;
 mod handler;
+mod message;
 mod refusal;
 #[cfg(test)]
 mod tests;
 
 pub use block_value::{BlockOption, BlockValue, InvalidBlockValue};
 pub use handler::{BlockHandler, BlockHandlerConfig, Request, RequestAnswer, Response, ResponseAnswer, ENTRIES};
+pub use message::{length_allowed, Draft, Malformed, Message, MessageType, NotWritten, Options};
 pub use refusal::Refusal;

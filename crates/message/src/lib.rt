@@ -8,6 +8,7 @@ pub use reader::nth_option;
 pub use reader::part_of;
 
 // The bytes from `from` on, up to `to` and without it.
+#[repr(C)]
 pub struct Part {
     pub from: usize,
     pub to: usize,

@@ -2,6 +2,7 @@
 
 mod calls;
 mod lengths;
+mod messages;
 mod model;
 mod parts;
 mod runs;
