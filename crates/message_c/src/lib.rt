@@ -134,24 +134,6 @@ pub extern "C" fn block_handler_next_option(message: &[u8], at: usize, before: u
     }
 }
 
-// Of a packet only where its options begin counts.
-fn packet_with(options: usize) -> Packet
-    ensures { λ r. ⌜ r .options .from ≡ options ⌝ }
-{
-    let nowhere = Part { from: 0, to: 0 };
-    Packet {
-        message_type: 0,
-        code: 0,
-        message_id: 0,
-        token: nowhere,
-        options: Part {
-            from: options,
-            to: options,
-        },
-        payload: nowhere,
-    }
-}
-
 // The n-th option of a number, the first being 0, of a message that was read and whose options begin there.
 #[no_mangle]
 pub extern "C" fn block_handler_nth_option(
@@ -162,7 +144,7 @@ pub extern "C" fn block_handler_nth_option(
 ) -> OptionAt
     ensures { λ r. ⌜ r ≡ optionFound number (foundFrom (now (message .entry)) options 0 number n) ⌝ }
 {
-    match message::nth_option(message, packet_with(options), number, n) {
+    match message::nth_option(message, options, number, n) {
         Found::At(value) => option_at(number, value.from, value.to),
         Found::Absent => no_option(),
     }

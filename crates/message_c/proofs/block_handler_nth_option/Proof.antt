@@ -1,12 +1,8 @@
 use mathlib.Core.Path.{sym, ap, _∙_}
-use Rattle.message.specs.Reader.{foundFrom}
 use Rattle.message_c.specs.Numbers.{optionFound}
 use borrow.Author.Needs.{needs}
 use Rattle.message_c.proofs.block_handler_nth_option.Statement.{statement}
 use Rattle.message_c.proofs.block_handler_nth_option.Tie as tie
-
-packet-with-requires : tie.Need-packet-with-requires
-packet-with-requires c κs = search needs
 
 nth-option-requires : tie.Need-nth-option-requires
 nth-option-requires c κs = search needs
@@ -24,16 +20,15 @@ no-option-requires : tie.Need-no-option-requires
 no-option-requires c κs = search needs
 
 returns : tie.Need-returns
-returns c = c .option-at .ensures ∙ ap (optionFound (c .before .before .before .before .before .before .before .args .number)) (sym (c .before .before .value .given .1) ∙ c .before .before .before .before .nth-option .ensures ∙ ap (λ at. foundFrom (c .before .before .before .before .before .before .before .args .message .now) at 0 (c .before .before .before .before .before .before .before .args .number) (c .before .before .before .before .before .before .before .args .n)) (c .before .before .before .before .before .packet-with .ensures))
+returns c = c .option-at .ensures ∙ ap (optionFound (c .before .before .before .before .before .before .args .number)) (sym (c .before .before .value .given .1) ∙ c .before .before .before .before .nth-option .ensures)
 
 returns-2 : tie.Need-returns-2
-returns-2 c = c .no-option .ensures ∙ ap (optionFound (c .before .before .before .before .before .before .args .number)) (sym (c .before .enum-told .given .1) ∙ c .before .before .before .nth-option .ensures ∙ ap (λ at. foundFrom (c .before .before .before .before .before .before .args .message .now) at 0 (c .before .before .before .before .before .before .args .number) (c .before .before .before .before .before .before .args .n)) (c .before .before .before .before .packet-with .ensures))
+returns-2 c = c .no-option .ensures ∙ ap (optionFound (c .before .before .before .before .before .args .number)) (sym (c .before .enum-told .given .1) ∙ c .before .before .before .nth-option .ensures)
 
 pub block-handler-nth-option-spec : {M : Type 1} → statement M
 block-handler-nth-option-spec =
     tie.close
     (tie.spec
-    packet-with-requires
     nth-option-requires
     enum-known-value
     option-at-requires
