@@ -3,8 +3,10 @@ use mathlib.Core.Path.{_≡_, refl, sym, ap, _∙_}
 use mathlib.Core.List.{List, [], _∷_, _++_, append-assoc}
 use Prim.Native.Nat.{ℕ, _+_, _-_, _%_, _^_, _≤_, _<_}
 use native.Mathlib.Omega.{arith}
-use lib.ListN.{length, drop, length-drop, length-append}
+use lib.ListN.{length, take, drop, length-drop, length-append}
 use lib.Seq.{take-all}
+use Rattle.pieces.specs.Memory.{part, Put}
+use Rattle.pieces.proofs.Memory.{part-patch}
 use Rattle.script.specs.Line.{cutAt, between, UpTo}
 use Rattle.script.proofs.Splitting.{next-field, last-field}
 use Rattle.coapdump.specs.Lines.{Ended}
@@ -40,3 +42,8 @@ module _ {number : ℕ} {text : List ℕ} {count from end : ℕ} (g : Going numb
         within = omega (arith, g .up-to .after, g .up-to .within);
         counted = g .counted;
       }
+
+-- what is put at the start stands there
+pub put-first : {m b m′ : List ℕ} {r : ℕ} → Put m 0 b m′ r → take (length b) m′ ≡ b
+unfolding part
+put-first {m} {b} p = ap (take (length b)) (p .is) ∙ part-patch m 0 b (omega arith)

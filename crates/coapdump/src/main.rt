@@ -1,7 +1,8 @@
 // CoAP messages in hex on standard input, one a line and any number of them: the parts of each, a line on standard output.
 ghost use mathlib.Core.Path.{_≡_};
 ghost use Prim.Native.Nat.{_≤_};
-ghost use lib.ListN.{length, replicate};
+ghost use lib.ListN.{length, take, replicate};
+ghost use Rattle.message_text.specs.Text.{lineText};
 ghost use Rattle.coapdump.specs.Lines.{Ended};
 
 // How many lines were printed, and where the text starts that has not ended.
@@ -26,9 +27,10 @@ fn output_buffer() -> [u8; 524344]
     [0; 524344]
 }
 
-// Each line is written at once, so that none waits for the next.
+// Each line is written at once, so that none waits for the next. What is written stands at the start of the output.
 fn print_line(number: u64, line: &[u8], bytes: &mut [u8], out: &mut [u8])
     requires { ⌜ (65535 ≤ length (now bytes)) × (524344 ≤ length (now out)) ⌝ }
+    ensures { λ _. ⌜ take (length (lineText number (now (line .entry)))) (now (out .exit)) ≡ lineText number (now (line .entry)) ⌝ }
 {
     let end = message_text::put_line(out, 0, number, line, bytes);
     line_input::print(out, end);
