@@ -246,23 +246,28 @@ ends-after before bytes number from to e =
 -- ---- runs of options
 
 -- a run that goes on in the rest is one of the whole
-run-whole : (before number to : ℕ) (bytes : List ℕ) → to ≤ length bytes → endsOf (optionsOf number (drop to bytes)) ≡ endsOf (optionsOf before bytes)
-    → (r : Run) → RunOf number (drop to bytes) r → RunOf before bytes r
-run-whole before number to bytes there e (More left k) run =
+run-whole : (before number to calls more : ℕ) (bytes : List ℕ) → 1 ≤ to → to ≤ length bytes → endsOf (optionsOf number (drop to bytes)) ≡ endsOf (optionsOf before bytes)
+    → (r : Run) → RunOf number (drop to bytes) more r → RunOf before bytes calls r
+run-whole before number to calls more bytes some there e (More left k) run =
     let l = length-drop to bytes in
-    let at : to + (length (drop to bytes) - left) ≡ length bytes - left = omega (arith, run .falls) in
+    let at : to + (length (drop to bytes) - left) ≡ length bytes - left = omega (arith, run .falls .0) in
     record {
       ends = ap (λ (n : ℕ). endsOf (optionsOf k (drop n bytes))) (sym at) ∙ ap (λ (l : List ℕ). endsOf (optionsOf k l)) (sym (drop-drop (length (drop to bytes) - left) to bytes)) ∙ run .ends ∙ e;
-      falls = omega (arith, run .falls);
+      falls = (omega (arith, run .falls .0), λ h. omega (arith, run .falls .0));
     }
-run-whole before number to bytes there e (run-variants.End left) run = record { ends = run .ends ∙ e; falls = tt }
-run-whole before number to bytes there e run-variants.Malformed run = record { ends = run .ends ∙ e; falls = tt }
+run-whole before number to calls more bytes some there e (run-variants.End left) run = record { ends = run .ends ∙ e; falls = tt }
+run-whole before number to calls more bytes some there e run-variants.Malformed run = record { ends = run .ends ∙ e; falls = tt }
 
-module _ (before : ℕ) (bytes : List ℕ) (next : Next) (is : next ≡ nextIn before bytes) where
-  pub run-ends : next ≡ End → RunOf before bytes (run-variants.End (length bytes))
+pub run-stops : (before : ℕ) (bytes : List ℕ) (calls : ℕ) → calls ≡ 0 → RunOf before bytes calls (More (length bytes) before)
+run-stops before bytes calls h =
+    let at : length bytes - length bytes ≡ 0 = omega arith in
+    record { ends = ap (λ (n : ℕ). endsOf (optionsOf before (drop n bytes))) at; falls = (omega arith, λ k. absurd (omega arith)) }
+
+module _ (before : ℕ) (bytes : List ℕ) (calls : ℕ) (next : Next) (is : next ≡ nextIn before bytes) where
+  pub run-ends : next ≡ End → RunOf before bytes calls (run-variants.End (length bytes))
   run-ends e = record { ends = sym (ap endsOf (options-end before bytes (sym is ∙ e))); falls = tt }
 
-  pub run-bad : next ≡ Malformed → RunOf before bytes run-variants.Malformed
+  pub run-bad : next ≡ Malformed → RunOf before bytes calls run-variants.Malformed
   run-bad e = record { ends = sym (ap endsOf (options-bad before bytes (sym is ∙ e))); falls = tt }
 
   module _ (number from to : ℕ) (e : next ≡ Option number from to) where
@@ -272,40 +277,34 @@ module _ (before : ℕ) (bytes : List ℕ) (next : Next) (is : next ≡ nextIn b
         let b = next-bounds before bytes number from to (sym is ∙ e) in
         (b .there, rw (rest-of bytes to) (omega (arith, b, length-drop to bytes)))
 
-    pub run-stops : RunOf before bytes (More (length bytes - to) number)
-    run-stops =
+    pub run-goes-on : (more : ℕ) (r : Run) → RunOf number (take (length bytes - to) (drop to bytes)) more r → RunOf before bytes calls r
+    run-goes-on more r run =
         let b = next-bounds before bytes number from to (sym is ∙ e) in
-        let at : length bytes - (length bytes - to) ≡ to = omega (arith, b .there) in
-        record {
-          ends = ap (λ (n : ℕ). endsOf (optionsOf number (drop n bytes))) at ∙ ends-after before bytes number from to (sym is ∙ e);
-          falls = omega (arith, b .starts, b .ends, b .there);
-        }
-
-    pub run-goes-on : (r : Run) → RunOf number (take (length bytes - to) (drop to bytes)) r → RunOf before bytes r
-    run-goes-on r run =
-        run-whole before number to bytes (rest-shorter .0) (ends-after before bytes number from to (sym is ∙ e)) r (rw (rest-of bytes to) at run)
+        run-whole before number to calls more bytes (omega (arith, b .starts, b .ends)) (b .there) (ends-after before bytes number from to (sym is ∙ e)) r (rw (rest-of bytes to) at run)
 
 -- run after run, from an index on: where the options end stays the same
-module _ (bytes : List ℕ) (at last : ℕ) (there : at ≤ length bytes) (r : Run) (run : RunOf last (take (length bytes - at) (drop at bytes)) r) where
-  rest-run : RunOf last (drop at bytes) r
+module _ (bytes : List ℕ) (at last calls : ℕ) (there : at ≤ length bytes) (r : Run) (run : RunOf last (take (length bytes - at) (drop at bytes)) calls r) where
+  rest-run : RunOf last (drop at bytes) calls r
   rest-run = rw (rest-of bytes at) at run
 
-  pub again : (left number : ℕ) → r ≡ More left number → (left < length bytes - at) × (endsOf (optionsOf number (drop (length bytes - left) bytes)) ≡ endsOf (optionsOf last (drop at bytes)))
-  again left number e =
-      let run′ : RunOf last (drop at bytes) (More left number) = rw e at rest-run in
+  pub again : 0 < calls → (left number : ℕ) → r ≡ More left number
+      → (left < length bytes - at) × (endsOf (optionsOf number (drop (length bytes - left) bytes)) ≡ endsOf (optionsOf last (drop at bytes)))
+  again some left number e =
+      let run′ : RunOf last (drop at bytes) calls (More left number) = rw e at rest-run in
       let l = length-drop at bytes in
-      let place : at + (length (drop at bytes) - left) ≡ length bytes - left = omega (arith, run′ .falls) in (
-        omega (arith, run′ .falls),
+      let less : left < length (drop at bytes) = run′ .falls .1 some in
+      let place : at + (length (drop at bytes) - left) ≡ length bytes - left = omega arith in (
+        omega arith,
         ap (λ (n : ℕ). endsOf (optionsOf number (drop n bytes))) (sym place)
             ∙ ap (λ (l : List ℕ). endsOf (optionsOf number l)) (sym (drop-drop (length (drop at bytes) - left) at bytes))
             ∙ run′ .ends,
       )
 
   pub at-end : (left : ℕ) → r ≡ run-variants.End left → Left left ≡ endsOf (optionsOf last (drop at bytes))
-  at-end left e = let run′ : RunOf last (drop at bytes) (run-variants.End left) = rw e at rest-run in run′ .ends
+  at-end left e = let run′ : RunOf last (drop at bytes) calls (run-variants.End left) = rw e at rest-run in run′ .ends
 
   pub at-bad : r ≡ run-variants.Malformed → ends-variants.Malformed ≡ endsOf (optionsOf last (drop at bytes))
-  at-bad e = let run′ : RunOf last (drop at bytes) run-variants.Malformed = rw e at rest-run in run′ .ends
+  at-bad e = let run′ : RunOf last (drop at bytes) calls run-variants.Malformed = rw e at rest-run in run′ .ends
 
 -- what is left is nothing, or a marker and a payload
 next-left : (before : ℕ) (bytes : List ℕ) → nextIn before bytes ≡ End → payloadBytes (drop 1 bytes) ≡ bytes
@@ -390,13 +389,15 @@ found-enough (suc f) (suc g) bytes at before wanted n h k = go (nextAt bytes at 
     go Malformed e more = refl
 
 module _ (bytes : List ℕ) (at before wanted n : ℕ) (next : Next) (is : next ≡ nextAt bytes at before) where
-  pub found-none : next ≡ End → Absent ≡ foundFrom bytes at before wanted n
+  -- where no option stands
+  pub found-none : ((number from to : ℕ) → next ≡ Option number from to → ⊥) → Absent ≡ foundFrom bytes at before wanted n
   unfolding foundIn
-  found-none e = sym (ap (onFound wanted n (λ to number k. foundIn (length bytes - at) bytes to number wanted k)) (sym is ∙ e))
-
-  pub found-bad : next ≡ Malformed → Absent ≡ foundFrom bytes at before wanted n
-  unfolding foundIn
-  found-bad e = sym (ap (onFound wanted n (λ to number k. foundIn (length bytes - at) bytes to number wanted k)) (sym is ∙ e))
+  found-none none = go next refl
+    where
+      go : (k : Next) → next ≡ k → Absent ≡ foundFrom bytes at before wanted n
+      go (Option number from to) e = absurd (none number from to e)
+      go End e = sym (ap (onFound wanted n (λ to number k. foundIn (length bytes - at) bytes to number wanted k)) (sym is ∙ e))
+      go Malformed e = sym (ap (onFound wanted n (λ to number k. foundIn (length bytes - at) bytes to number wanted k)) (sym is ∙ e))
 
   module _ (number from to : ℕ) (e : next ≡ Option number from to) where
     pub found-bounds : BoundedAt bytes at before number from to

@@ -14,7 +14,7 @@ use Rattle.message.specs.Format.{CoapOption, Message, Bytes, optionsByte
 use Rattle.message.specs.Reader.{packetOf, withoutPayload, counted, nextAt, foundFrom, Value, none, value, nthOf, valueAt}
 use Rattle.message.specs.declared.Next.{Next}
 use Rattle.message.specs.declared.Next.the-variants.{Option, End, Malformed}
-use Rattle.message.proofs.Laws.{next-bounds, options-more, options-end, options-bad, options-left, no-options, with-tells, found-none, found-on, found-here}
+use Rattle.message.proofs.Laws.{next-bounds, options-more, options-end, options-bad, options-left, no-options, end-no-option, with-tells, found-none, found-on, found-here}
 use Rattle.message.proofs.Messages.{no-meaning, head-tells}
 use Rattle.message.proofs.WriteBack.{write-back}
 
@@ -189,7 +189,7 @@ module _ (bytes : List ℕ) (at before : ℕ) (left : List ℕ) (h : at ≤ leng
 shown-from : (bytes : List ℕ) (wanted : ℕ) (list : List CoapOption) (left : List ℕ) (at before n : ℕ) → at ≤ length bytes → optionsOf before (drop at bytes) ≡ options list left
     → valueAt bytes (foundFrom bytes at before wanted n) ≡ nthOf wanted n list
 unfolding nthOf
-shown-from bytes wanted [] left at before n h e = ap (valueAt bytes) (sym (found-none bytes at before wanted n End (sym (end-shown bytes at before left h e)) refl))
+shown-from bytes wanted [] left at before n h e = ap (valueAt bytes) (sym (found-none bytes at before wanted n End (sym (end-shown bytes at before left h e)) (λ number from to p. end-no-option p)))
 shown-from bytes wanted (o ∷ list) left at before n h e = go (eqb (o .number) wanted) (eqb n 0) refl refl (λ k. shown-from bytes wanted list left (is .to) (o .number) k (is .there) (is .rest))
   where
     is : NextIs bytes at before o list left

@@ -1,5 +1,5 @@
 -- What the reader gives of a message: where its parts stand. Nothing is copied.
-use Prim.Native.Nat.{ℕ, zero, suc, _+_, _-_, _<_}
+use Prim.Native.Nat.{ℕ, zero, suc, _+_, _-_, _≤_, _<_}
 use mathlib.Core.Path.{_≡_}
 use mathlib.Core.Bool.{cond}
 use mathlib.Core.List.{List, [], _∷_}
@@ -35,15 +35,15 @@ afterRun rest (More left number) = endsOf (optionsOf number (drop (length rest -
 afterRun rest (run-variants.End left) = ends-variants.Left left
 afterRun rest run-variants.Malformed = ends-variants.Malformed
 
--- A run that does not reach the end takes an option at least.
-abbrev pub Falls : List ℕ → Run → Type 0
-Falls rest (More left number) = left < length rest
-Falls rest (run-variants.End left) = Unit {0}
-Falls rest run-variants.Malformed = Unit {0}
+-- A run that does not reach the end takes an option at least, if it may take any.
+abbrev pub Falls : List ℕ → ℕ → Run → Type 0
+Falls rest calls (More left number) = (left ≤ length rest) × (0 < calls → left < length rest)
+Falls rest calls (run-variants.End left) = Unit {0}
+Falls rest calls run-variants.Malformed = Unit {0}
 
-pub record RunOf (before : ℕ) (rest : List ℕ) (r : Run) : Type 0 where
+pub record RunOf (before : ℕ) (rest : List ℕ) (calls : ℕ) (r : Run) : Type 0 where
   pub ends : afterRun rest r ≡ endsOf (optionsOf before rest)
-  pub falls : Falls rest r
+  pub falls : Falls rest calls r
 
 -- The parts of a message of n bytes: the token after the four bytes of the head, then the options, and the payload at the end.
 abbrev pub packetOf : ℕ → Message → Packet

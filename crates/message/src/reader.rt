@@ -16,7 +16,7 @@ ghost use Rattle.message.specs.Format.{extras, extended, optionIn, nextI
 ghost use Rattle.message.specs.Reader.{RunOf, endsOf, readOf, nextAt, foundFrom};
 
 // How many calls a run of options may take: some two kilobytes of stack.
-const CALLS: usize = 31;
+const CALLS: usize = 32;
 
 fn wide(x: u8) -> usize
     ensures { λ r. ⌜ (r ≡ x) × (r < 256) ⌝ }
@@ -102,22 +102,20 @@ fn next_in(bytes: &[u8], before: u16) -> Next
 // Takes the options one by one, until the payload marker or the end, by a call on the rest of the message. Each call keeps its place on the stack,
 // so after as many as it was allowed it says where it stands.
 fn take_options(rest: &[u8], before: u16, calls: usize) -> Run
-    ensures { λ r. ⌜ RunOf before (now (rest .entry)) r ⌝ }
+    ensures { λ r. ⌜ RunOf before (now (rest .entry)) calls r ⌝ }
 {
+    if calls == 0 {
+        return Run::More {
+            left: rest.len(),
+            number: before,
+        };
+    }
     match next_in(rest, before) {
         Next::Option {
             number,
             from: _,
             to,
-        } => {
-            if calls == 0 {
-                return Run::More {
-                    left: rest.len() - to,
-                    number,
-                };
-            }
-            take_options(&rest[to..], number, calls - 1)
-        }
+        } => take_options(&rest[to..], number, calls - 1),
         Next::End => Run::End(rest.len()),
         Next::Malformed => Run::Malformed,
     }
@@ -270,18 +268,15 @@ pub fn nth_option(message: &[u8], options: usize, wanted: u16, n: usize) -> Foun
     let mut last: u16 = 0;
     let mut left = n;
     loop {
-        match next_option(message, at, last) {
-            Next::Option { number, from, to } => {
-                if is_found(number, wanted, left) {
-                    return Found::At(Part { from, to });
-                }
-                left = still_before(number, wanted, left);
-                at = to;
-                last = number;
-            }
-            Next::End => return Found::Absent,
-            Next::Malformed => return Found::Absent,
+        let Next::Option { number, from, to } = next_option(message, at, last) else {
+            return Found::Absent;
+        };
+        if is_found(number, wanted, left) {
+            return Found::At(Part { from, to });
         }
+        left = still_before(number, wanted, left);
+        at = to;
+        last = number;
     }
 }
 

@@ -1,8 +1,8 @@
+use Prim.Native.Nat.{ℕ, _-_, _<_}
 use borrow.Author.Needs.{needs}
 use native.Mathlib.Omega.{arith}
 use Rattle.message.proofs.Laws.{rest-shorter, run-stops, run-goes-on, run-ends, run-bad}
 use lib.ListN.{length}
-use Prim.Native.Nat.{ℕ, _<_}
 use borrow.Fn.Kinds.{In}
 use borrow.Fn.PlainCycle.{Measures, is, falls, and}
 use Rattle.message.proofs.reader.take_options.Reads as take-options
@@ -21,7 +21,19 @@ take-options-at t =
 
 abbrev take-options-below : ℕ → In 1 take-options-kinds.ps
 take-options-below t =
-    and 1 take-options-kinds.ps (falls 1 take-options-kinds.ps _<_ μ-take-options t) take-options.Pre
+    and
+    1
+    take-options-kinds.ps
+    (falls 1 take-options-kinds.ps _<_ μ-take-options t)
+    take-options.Pre
+
+take-options-returns : (t : ℕ) → take-options-lts.Need-returns (
+  next-in-reads.Asked,
+  next-in-reads.Learnt,
+  take-options-below t,
+  take-options.Post,
+) (take-options-at t) take-options.Post
+take-options-returns t c = run-stops (c .before .before .args .before) (c .before .before .args .rest .now) (c .before .before .args .calls) (c .if1 .taken)
 
 take-options-next-in-requires : (t : ℕ) → take-options-lts.Need-next-in-requires (
   next-in-reads.Asked,
@@ -39,29 +51,13 @@ take-options-enum-known-number : (t : ℕ) → take-options-lts.Need-enum-known-
 ) (take-options-at t) take-options.Post
 take-options-enum-known-number t c = search needs
 
-take-options-sub-t10 : (t : ℕ) → take-options-lts.Need-sub-t10 (
-  next-in-reads.Asked,
-  next-in-reads.Learnt,
-  take-options-below t,
-  take-options.Post,
-) (take-options-at t) take-options.Post
-take-options-sub-t10 t c = rest-shorter (c .before .before .before .before .before .before .args .before) (c .before .before .before .before .before .before .args .rest .now) (c .before .before .before .before .next-in .result) (c .before .before .before .before .next-in .ensures) (c .before .before .number .given .0 .0) (c .before .before .number .given .0 .1 .0) (c .before .before .number .given .0 .1 .1 .0) (c .before .before .number .given .1) .0
-
-take-options-returns : (t : ℕ) → take-options-lts.Need-returns (
-  next-in-reads.Asked,
-  next-in-reads.Learnt,
-  take-options-below t,
-  take-options.Post,
-) (take-options-at t) take-options.Post
-take-options-returns t c = run-stops (c .before .before .before .before .before .before .args .before) (c .before .before .before .before .before .before .args .rest .now) (c .before .before .before .before .next-in .result) (c .before .before .before .before .next-in .ensures) (c .before .before .number .given .0 .0) (c .before .before .number .given .0 .1 .0) (c .before .before .number .given .0 .1 .1 .0) (c .before .before .number .given .1)
-
 take-options-sub-take-options : (t : ℕ) → take-options-lts.Need-sub-take-options (
   next-in-reads.Asked,
   next-in-reads.Learnt,
   take-options-below t,
   take-options.Post,
 ) (take-options-at t) take-options.Post
-take-options-sub-take-options t c = rest-shorter (c .before .before .before .before .before .before .args .before) (c .before .before .before .before .before .before .args .rest .now) (c .before .before .before .before .next-in .result) (c .before .before .before .before .next-in .ensures) (c .before .before .number .given .0 .0) (c .before .before .number .given .0 .1 .0) (c .before .before .number .given .0 .1 .1 .0) (c .before .before .number .given .1) .0
+take-options-sub-take-options t c = rest-shorter (c .before .before .before .before .before .before .args .before) (c .before .before .before .before .before .before .args .rest .now) (c .before .before .before .before .before .before .args .calls) (c .before .before .before .next-in .result) (c .before .before .before .next-in .ensures) (c .before .number .given .0 .0) (c .before .number .given .0 .1 .0) (c .before .number .given .0 .1 .1 .0) (c .before .number .given .1) .0
 
 take-options-part-take-options-start : (t : ℕ) → take-options-lts.Need-part-take-options-start (
   next-in-reads.Asked,
@@ -69,7 +65,7 @@ take-options-part-take-options-start : (t : ℕ) → take-options-lts.Need-part-
   take-options-below t,
   take-options.Post,
 ) (take-options-at t) take-options.Post
-take-options-part-take-options-start t c = rest-shorter (c .before .before .before .before .before .before .args .before) (c .before .before .before .before .before .before .args .rest .now) (c .before .before .before .before .next-in .result) (c .before .before .before .before .next-in .ensures) (c .before .before .number .given .0 .0) (c .before .before .number .given .0 .1 .0) (c .before .before .number .given .0 .1 .1 .0) (c .before .before .number .given .1) .0
+take-options-part-take-options-start t c = rest-shorter (c .before .before .before .before .before .before .args .before) (c .before .before .before .before .before .before .args .rest .now) (c .before .before .before .before .before .before .args .calls) (c .before .before .before .next-in .result) (c .before .before .before .next-in .ensures) (c .before .number .given .0 .0) (c .before .number .given .0 .1 .0) (c .before .number .given .0 .1 .1 .0) (c .before .number .given .1) .0
 
 take-options-part-take-options-end : (t : ℕ) → take-options-lts.Need-part-take-options-end (
   next-in-reads.Asked,
@@ -93,7 +89,7 @@ take-options-take-options-requires : (t : ℕ) → take-options-lts.Need-take-op
   take-options-below t,
   take-options.Post,
 ) (take-options-at t) take-options.Post
-take-options-take-options-requires t c κs = (omega (arith, c .before .before .before .before .before .before .before .pre .0, rest-shorter (c .before .before .before .before .before .before .before .args .before) (c .before .before .before .before .before .before .before .args .rest .now) (c .before .before .before .before .before .next-in .result) (c .before .before .before .before .before .next-in .ensures) (c .before .before .before .number .given .0 .0) (c .before .before .before .number .given .0 .1 .0) (c .before .before .before .number .given .0 .1 .1 .0) (c .before .before .before .number .given .1) .1), tt)
+take-options-take-options-requires t c κs = (omega (arith, c .before .before .before .before .before .before .before .pre .0, rest-shorter (c .before .before .before .before .before .before .before .args .before) (c .before .before .before .before .before .before .before .args .rest .now) (c .before .before .before .before .before .before .before .args .calls) (c .before .before .before .before .next-in .result) (c .before .before .before .before .next-in .ensures) (c .before .before .number .given .0 .0) (c .before .before .number .given .0 .1 .0) (c .before .before .number .given .0 .1 .1 .0) (c .before .before .number .given .1) .1), tt)
 
 take-options-enum-told : (t : ℕ) → take-options-lts.Need-enum-told (
   next-in-reads.Asked,
@@ -117,7 +113,7 @@ take-options-returns-2 : (t : ℕ) → take-options-lts.Need-returns-2 (
   take-options-below t,
   take-options.Post,
 ) (take-options-at t) take-options.Post
-take-options-returns-2 t c = run-goes-on (c .before .before .before .before .before .before .before .before .args .before) (c .before .before .before .before .before .before .before .before .args .rest .now) (c .before .before .before .before .before .before .next-in .result) (c .before .before .before .before .before .before .next-in .ensures) (c .before .before .before .before .number .given .0 .0) (c .before .before .before .before .number .given .0 .1 .0) (c .before .before .before .before .number .given .0 .1 .1 .0) (c .before .before .before .before .number .given .1) (c .take-options .result) (c .take-options .ensures)
+take-options-returns-2 t c = run-goes-on (c .before .before .before .before .before .before .before .before .args .before) (c .before .before .before .before .before .before .before .before .args .rest .now) (c .before .before .before .before .before .before .before .before .args .calls) (c .before .before .before .before .before .next-in .result) (c .before .before .before .before .before .next-in .ensures) (c .before .before .before .number .given .0 .0) (c .before .before .before .number .given .0 .1 .0) (c .before .before .before .number .given .0 .1 .1 .0) (c .before .before .before .number .given .1) (c .before .before .before .before .before .before .before .before .args .calls - 1) (c .take-options .result) (c .take-options .ensures)
 
 take-options-returns-3 : (t : ℕ) → take-options-lts.Need-returns-3 (
   next-in-reads.Asked,
@@ -125,7 +121,7 @@ take-options-returns-3 : (t : ℕ) → take-options-lts.Need-returns-3 (
   take-options-below t,
   take-options.Post,
 ) (take-options-at t) take-options.Post
-take-options-returns-3 t c = run-ends (c .before .before .before .before .args .before) (c .before .before .before .before .args .rest .now) (c .before .before .next-in .result) (c .before .before .next-in .ensures) (c .enum-told .given .1)
+take-options-returns-3 t c = run-ends (c .before .before .before .before .before .args .before) (c .before .before .before .before .before .args .rest .now) (c .before .before .before .before .before .args .calls) (c .before .before .next-in .result) (c .before .before .next-in .ensures) (c .enum-told .given .1)
 
 take-options-returns-4 : (t : ℕ) → take-options-lts.Need-returns-4 (
   next-in-reads.Asked,
@@ -133,7 +129,7 @@ take-options-returns-4 : (t : ℕ) → take-options-lts.Need-returns-4 (
   take-options-below t,
   take-options.Post,
 ) (take-options-at t) take-options.Post
-take-options-returns-4 t c = run-bad (c .before .before .before .before .args .before) (c .before .before .before .before .args .rest .now) (c .before .before .next-in .result) (c .before .before .next-in .ensures) (c .enum-told2 .given .1)
+take-options-returns-4 t c = run-bad (c .before .before .before .before .before .args .before) (c .before .before .before .before .before .args .rest .now) (c .before .before .before .before .before .args .calls) (c .before .before .next-in .result) (c .before .before .next-in .ensures) (c .enum-told2 .given .1)
 
 pub +take-options-spec : {M : Type 1} → statement M
 +take-options-spec = close μ-take-options λ t. take-options-lts.spec (
@@ -144,10 +140,9 @@ pub +take-options-spec : {M : Type 1} → statement M
 )
     (take-options-at t)
     take-options.Post
+    (take-options-returns t)
     (take-options-next-in-requires t)
     (take-options-enum-known-number t)
-    (take-options-sub-t10 t)
-    (take-options-returns t)
     (take-options-sub-take-options t)
     (take-options-part-take-options-start t)
     (take-options-part-take-options-end t)

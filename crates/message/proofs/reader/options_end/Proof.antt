@@ -34,25 +34,25 @@ enum-known-left : tie.Need-enum-known-left Inv-loop μ-loop
 enum-known-left c = search needs
 
 sub-at : tie.Need-sub-at Inv-loop μ-loop
-sub-at c = omega (arith, again (c .before .before .before .before .before .before .before .args .message .now) (c .before .before .before .before .before .loop .at) (c .before .before .before .before .before .loop .last) (c .before .before .before .before .before .loop .inv .0) (c .before .before .before .take-options .result) (c .before .before .before .take-options .ensures) (c .before .left .given .0 .0) (c .before .left .given .0 .1 .0) (c .before .left .given .1) .0)
+sub-at c = omega (arith, again (c .before .before .before .before .before .before .before .args .message .now) (c .before .before .before .before .before .loop .at) (c .before .before .before .before .before .loop .last) 32 (c .before .before .before .before .before .loop .inv .0) (c .before .before .before .take-options .result) (c .before .before .before .take-options .ensures) (omega arith) (c .before .left .given .0 .0) (c .before .left .given .0 .1 .0) (c .before .left .given .1) .0)
 
 loop-less : tie.Need-loop-less Inv-loop μ-loop
-loop-less c = omega (arith, again (c .before .before .before .before .before .before .before .args .message .now) (c .before .before .before .before .before .loop .at) (c .before .before .before .before .before .loop .last) (c .before .before .before .before .before .loop .inv .0) (c .before .before .before .take-options .result) (c .before .before .before .take-options .ensures) (c .before .left .given .0 .0) (c .before .left .given .0 .1 .0) (c .before .left .given .1) .0)
+loop-less c = omega (arith, again (c .before .before .before .before .before .before .before .args .message .now) (c .before .before .before .before .before .loop .at) (c .before .before .before .before .before .loop .last) 32 (c .before .before .before .before .before .loop .inv .0) (c .before .before .before .take-options .result) (c .before .before .before .take-options .ensures) (omega arith) (c .before .left .given .0 .0) (c .before .left .given .0 .1 .0) (c .before .left .given .1) .0)
 
 loop-again : tie.Need-loop-again Inv-loop μ-loop
-loop-again c = let a = again (c .before .before .before .before .before .before .before .args .message .now) (c .before .before .before .before .before .loop .at) (c .before .before .before .before .before .loop .last) (c .before .before .before .before .before .loop .inv .0) (c .before .before .before .take-options .result) (c .before .before .before .take-options .ensures) (c .before .left .given .0 .0) (c .before .left .given .0 .1 .0) (c .before .left .given .1) in (omega arith, a .1 ∙ c .before .before .before .before .before .loop .inv .1)
+loop-again c = let a = again (c .before .before .before .before .before .before .before .args .message .now) (c .before .before .before .before .before .loop .at) (c .before .before .before .before .before .loop .last) 32 (c .before .before .before .before .before .loop .inv .0) (c .before .before .before .take-options .result) (c .before .before .before .take-options .ensures) (omega arith) (c .before .left .given .0 .0) (c .before .left .given .0 .1 .0) (c .before .left .given .1) in (omega arith, a .1 ∙ c .before .before .before .before .before .loop .inv .1)
 
 enum-known-left-2 : tie.Need-enum-known-left-2 Inv-loop μ-loop
 enum-known-left-2 c = search needs
 
 returns : tie.Need-returns Inv-loop μ-loop
-returns c = at-end (c .before .before .before .before .before .before .before .args .message .now) (c .before .before .before .before .before .loop .at) (c .before .before .before .before .before .loop .last) (c .before .before .before .before .before .loop .inv .0) (c .before .before .before .take-options .result) (c .before .before .before .take-options .ensures) (c .before .left2 .given .0 .0) (c .before .left2 .given .1) ∙ c .before .before .before .before .before .loop .inv .1
+returns c = at-end (c .before .before .before .before .before .before .before .args .message .now) (c .before .before .before .before .before .loop .at) (c .before .before .before .before .before .loop .last) 32 (c .before .before .before .before .before .loop .inv .0) (c .before .before .before .take-options .result) (c .before .before .before .take-options .ensures) (c .before .left2 .given .0 .0) (c .before .left2 .given .1) ∙ c .before .before .before .before .before .loop .inv .1
 
 enum-told : tie.Need-enum-told Inv-loop μ-loop
 enum-told c = search needs
 
 returns-2 : tie.Need-returns-2 Inv-loop μ-loop
-returns-2 c = at-bad (c .before .before .before .before .before .before .args .message .now) (c .before .before .before .before .loop .at) (c .before .before .before .before .loop .last) (c .before .before .before .before .loop .inv .0) (c .before .before .take-options .result) (c .before .before .take-options .ensures) (c .enum-told .given .1) ∙ c .before .before .before .before .loop .inv .1
+returns-2 c = at-bad (c .before .before .before .before .before .before .args .message .now) (c .before .before .before .before .loop .at) (c .before .before .before .before .loop .last) 32 (c .before .before .before .before .loop .inv .0) (c .before .before .take-options .result) (c .before .before .take-options .ensures) (c .enum-told .given .1) ∙ c .before .before .before .before .loop .inv .1
 
 pub options-end-spec : {M : Type 1} → statement M
 options-end-spec =
