@@ -45,8 +45,7 @@ fn print_read(bytes: &[u8]) {
 }
 
 // The length, the bare length and the start of the payload, and the first bytes; of a refused message the number, and the output's first bytes.
-fn show(label: &[u8], writing: Writing, out: &[u8]) {
-    io::write_all(1, label);
+fn show(writing: Writing, out: &[u8]) {
     match writing {
         Writing::Written(n) => {
             print_number(n);
@@ -65,7 +64,6 @@ fn show(label: &[u8], writing: Writing, out: &[u8]) {
 // One message into an output that is all zeros before.
 fn write<'a>(
     out: &mut [u8],
-    label: &'a [u8],
     message_type: u8,
     code: u8,
     token: &'a [u8],
@@ -87,87 +85,90 @@ fn write<'a>(
         values,
         payload,
     );
-    show(label, writing, out);
+    show(writing, out);
 }
 
-// The messages of coap-lite's own documentation, to the last byte of room, and one byte short.
-fn request() {
+// The messages of coap-lite's own documentation.
+fn request(out: &mut [u8]) {
     let token = [0u8, 0, 57, 116];
+    print_number(out.len());
+    write(out, 0, 1, &token, &[3, 11], &[9, 3], b"localhosttv1", b"");
+}
+
+fn response(out: &mut [u8]) {
+    let token = [0u8, 0, 57, 116];
+    print_number(out.len());
+    write(out, 2, 69, &token, &[], &[], b"", b"Hello World!");
+}
+
+// To the last byte of room, and one byte short.
+fn documented() {
     let mut exact = [0u8; 22];
     let mut short = [0u8; 21];
-    write(
-        &mut exact,
-        b"request ",
-        0,
-        1,
-        &token,
-        &[3, 11],
-        &[9, 3],
-        b"localhosttv1",
-        b"",
-    );
-    write(
-        &mut short,
-        b"request ",
-        0,
-        1,
-        &token,
-        &[3, 11],
-        &[9, 3],
-        b"localhosttv1",
-        b"",
-    );
+    let mut shorter = [0u8; 20];
+    request(&mut exact);
+    request(&mut short);
+    response(&mut short);
+    response(&mut shorter);
 }
 
-fn response() {
-    let token = [0u8, 0, 57, 116];
-    let mut exact = [0u8; 21];
-    let mut short = [0u8; 20];
-    write(
-        &mut exact,
-        b"response ",
-        2,
-        69,
-        &token,
-        &[],
-        &[],
-        b"",
-        b"Hello World!",
-    );
-    write(
-        &mut short,
-        b"response ",
-        2,
-        69,
-        &token,
-        &[],
-        &[],
-        b"",
-        b"Hello World!",
-    );
-}
-
-// An option of this number, and one with a value of so many bytes.
-fn edge(out: &mut [u8], n: u32) {
-    let one = [n];
-    let values = zeros();
-    print_number(n as usize);
-    write(out, b"number ", 0, 1, b"", &one, &[0], b"", b"");
-    print_number(n as usize);
+// A message with no options, whose token and payload have so many bytes.
+fn plain(out: &mut [u8], message_type: u8, code: u8, token: usize, payload: usize) {
+    let bytes = zeros();
+    print_number(message_type as usize);
+    print_number(code as usize);
+    print_number(token);
+    print_number(payload);
     write(
         out,
-        b"length ",
-        0,
-        1,
+        message_type,
+        code,
+        pieces::within(&bytes, 0, token),
+        &[],
+        &[],
         b"",
-        &[1],
-        &one,
-        pieces::within(&values, 0, n as usize),
-        b"x",
+        pieces::within(&bytes, 0, payload),
+    );
+}
+
+fn heads(out: &mut [u8]) {
+    plain(out, 1, 1, 0, 0);
+    plain(out, 1, 1, 8, 1);
+    plain(out, 1, 1, 9, 1);
+    plain(out, 4, 1, 0, 0);
+    plain(out, 3, 255, 0, 0);
+}
+
+fn empty(out: &mut [u8]) {
+    plain(out, 3, 0, 0, 0);
+    plain(out, 3, 0, 1, 0);
+    plain(out, 3, 0, 0, 1);
+}
+
+// An option of a number, whose length is said to be len where there are so many bytes of values.
+fn option(out: &mut [u8], code: u8, number: u32, len: u32, values: usize) {
+    let bytes = zeros();
+    print_number(number as usize);
+    print_number(len as usize);
+    print_number(values);
+    write(
+        out,
+        0,
+        code,
+        b"",
+        &[number],
+        &[len],
+        pieces::within(&bytes, 0, values),
+        b"",
     );
 }
 
 // Both sides of each range that a nibble and its extension reach.
+fn edge(out: &mut [u8], n: u32) {
+    option(out, 1, n, 0, 0);
+    option(out, 1, 1, n, n as usize);
+}
+
 fn ranges(out: &mut [u8]) {
     edge(out, 0);
     edge(out, 12);
@@ -180,95 +181,20 @@ fn ranges(out: &mut [u8]) {
     edge(out, 65805);
 }
 
-fn tokens(out: &mut [u8]) {
-    write(out, b"token of 0 ", 1, 1, b"", &[], &[], b"", b"");
-    write(out, b"token of 8 ", 1, 1, b"12345678", &[], &[], b"", b"");
-    write(out, b"token of 9 ", 1, 1, b"123456789", &[], &[], b"", b"");
+// Two options, each with a value of one byte.
+fn two(out: &mut [u8], first: u32, second: u32) {
+    print_number(first as usize);
+    print_number(second as usize);
+    write(out, 0, 1, b"", &[first, second], &[1, 1], b"ab", b"");
 }
 
+// Numbers that repeat and that fall; values that do not go with the lengths; an option in an empty message.
 fn orders(out: &mut [u8]) {
-    write(
-        out,
-        b"repeated ",
-        0,
-        1,
-        b"",
-        &[11, 11],
-        &[1, 2],
-        b"abb",
-        b"",
-    );
-    write(out, b"falling ", 0, 1, b"", &[11, 3], &[1, 2], b"abb", b"");
-}
-
-// Lengths and values that do not go with the numbers.
-fn counts(out: &mut [u8]) {
-    write(
-        out,
-        b"a length more ",
-        0,
-        1,
-        b"",
-        &[3],
-        &[1, 2],
-        b"abb",
-        b"",
-    );
-    write(
-        out,
-        b"a byte more ",
-        0,
-        1,
-        b"",
-        &[3, 11],
-        &[1, 2],
-        b"abbb",
-        b"",
-    );
-    write(
-        out,
-        b"a byte less ",
-        0,
-        1,
-        b"",
-        &[3, 11],
-        &[1, 2],
-        b"ab",
-        b"",
-    );
-}
-
-fn heads(out: &mut [u8]) {
-    write(out, b"empty ", 3, 0, b"", &[], &[], b"", b"");
-    write(out, b"type 4 ", 4, 1, b"", &[], &[], b"", b"");
-    write(out, b"code 7.31 ", 3, 255, b"", &[], &[], b"", b"");
-}
-
-// A code of 0.00 with anything.
-fn not_empty(out: &mut [u8]) {
-    write(out, b"empty with a token ", 3, 0, b"t", &[], &[], b"", b"");
-    write(
-        out,
-        b"empty with an option ",
-        3,
-        0,
-        b"",
-        &[1],
-        &[0],
-        b"",
-        b"",
-    );
-    write(
-        out,
-        b"empty with a payload ",
-        3,
-        0,
-        b"",
-        &[],
-        &[],
-        b"",
-        b"p",
-    );
+    two(out, 11, 11);
+    two(out, 11, 3);
+    option(out, 1, 3, 2, 3);
+    option(out, 1, 3, 2, 1);
+    option(out, 0, 1, 0, 0);
 }
 
 // The n-th option of a number.
@@ -346,14 +272,11 @@ fn output() -> [u8; 70000] {
 
 fn main() {
     let mut out = output();
-    request();
-    response();
-    ranges(&mut out);
-    tokens(&mut out);
-    orders(&mut out);
-    counts(&mut out);
+    documented();
     heads(&mut out);
-    not_empty(&mut out);
+    empty(&mut out);
+    ranges(&mut out);
+    orders(&mut out);
     cut();
     finds();
     lengths();
