@@ -17,7 +17,7 @@ use Rattle.block_state.specs.Message.{Request, Response, What, request, respons
 use Rattle.block_state.specs.Step.{Left}
 use Rattle.request_step.specs.Step.{stepRequest}
 use Rattle.response_step.specs.Step.{stepResponse}
-use Rattle.block_state.proofs.Tests.{ands, and-both, on-test}
+use Rattle.pieces.proofs.Tests.{ands, and-both, on-test}
 use Rattle.block_state.proofs.Fits.{StateFits}
 use Rattle.block_state.proofs.StepKeeps.{Keeps}
 use Rattle.request_step.proofs.StepKeeps.{request-keeps}

@@ -18,7 +18,7 @@ use Rattle.block_state.specs.State.{nothing}
 use Rattle.block_state.specs.Step.{left}
 use Rattle.request_step.specs.Step.{stepRequest}
 use Rattle.response_step.specs.Step.{stepResponse}
-use Rattle.block_state.proofs.Tests.{by-cases}
+use Rattle.pieces.proofs.Tests.{by-cases}
 use Rattle.entries.specs.declared.Entry.{Entry}
 use Rattle.block_table.specs.declared.Table.{Table}
 use Rattle.keys.specs.Keys.{stored}

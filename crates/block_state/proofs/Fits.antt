@@ -13,7 +13,7 @@ use Rattle.block_state.specs.declared.Cached.{Cached}
 use Rattle.block_state.specs.declared.Recorded.{Recorded}
 use Rattle.block_state.specs.declared.BlockState.{BlockState}
 use Rattle.block_state.specs.State.{assembly, noCache, caching, keptWhile, recording, recordedBlock, nothing, assembledOk, cachedOk, recordedOk, stateOk, isNothing}
-use Rattle.block_state.proofs.Tests.{ands, and-both}
+use Rattle.pieces.proofs.Tests.{ands, and-both}
 
 -- ---- a state by its parts
 

@@ -20,7 +20,7 @@ use Rattle.block_table.specs.Table.{distinct}
 use Rattle.entries.specs.Quick.{tagOf}
 use Rattle.block_table.specs.Quick.{tagsFrom, alone}
 use Rattle.keys.proofs.Turns.{drop-step}
-use Rattle.block_state.proofs.Tests.{and-left, and-right}
+use Rattle.pieces.proofs.Tests.{and-left, and-right}
 use Rattle.entries.proofs.Quick.{tag-same}
 
 module _ (l : List Entry) (i : ℕ) where

@@ -8,7 +8,7 @@ use native.Mathlib.Omega.{arith}
 use native.Mathlib.Decide.{ℕ-discrete}
 use lib.ListN.{length, set, length-set, length-map, List·getD-map}
 use lib.Seq.{getD-set-same, getD-set-other}
-use Rattle.block_state.proofs.Tests.{and-left, and-right, and-both, false-is-not, refute, clash-of}
+use Rattle.pieces.proofs.Tests.{and-left, and-right, and-both, false-is-not, refute, clash-of}
 use Rattle.entries.specs.declared.Entry.{Entry}
 use Rattle.keys.specs.Lists.{all}
 use Rattle.keys.specs.Keys.{keyOf}

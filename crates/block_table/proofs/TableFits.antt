@@ -6,7 +6,7 @@ use mathlib.Core.List.{List}
 use native.Mathlib.Omega.{arith}
 use lib.ListN.{length, replicate, getD-replicate}
 use Rattle.block_state.specs.declared.Config.{Config}
-use Rattle.block_state.proofs.Tests.{ands, and-both}
+use Rattle.pieces.proofs.Tests.{ands, and-both}
 use Rattle.entries.specs.declared.Entry.{Entry}
 use Rattle.block_table.specs.declared.Table.{Table}
 use Rattle.keys.specs.Lists.{all}

@@ -14,7 +14,7 @@ use Rattle.entries.specs.declared.Entry.{Entry}
 use Rattle.keys.specs.Lists.{all}
 use Rattle.entries.specs.Entries.{swept, entryOk}
 use Rattle.block_table.specs.Table.{sweep}
-use Rattle.block_state.proofs.Tests.{and-left, and-right}
+use Rattle.pieces.proofs.Tests.{and-left, and-right}
 use Rattle.keys.proofs.Turns.{drop-step, all-end}
 use Rattle.entries.specs.Quick.{sized, unexpired}
 use Rattle.entries.proofs.Cases.{kept-by}

@@ -20,7 +20,7 @@ use Rattle.block_state.specs.Message.{request, WhatBytes}
 use Rattle.block_state.specs.Answers.{said, continue, handed}
 use Rattle.block_state.specs.Step.{left, bytesFrom}
 use Rattle.request_step.specs.Step.{stepRequest}
-use Rattle.block_state.proofs.Tests.{ands, and-both, by-cases}
+use Rattle.pieces.proofs.Tests.{ands, and-both, by-cases}
 use Rattle.entries.specs.declared.Entry.{Entry}
 use Rattle.keys.specs.Lists.{find}
 use Rattle.keys.specs.Keys.{same, keyOk}

@@ -31,7 +31,7 @@ use Rattle.request_step.specs.Step.{stepRequest}
 use Rattle.request_block2.proofs.Steps.{onward-absent}
 use Rattle.request_block1.proofs.Steps.{taken-more, taken-last, spliced-body, given-next}
 use Rattle.request_step.proofs.Steps.{request-given}
-use Rattle.block_state.proofs.Tests.{clash-of}
+use Rattle.pieces.proofs.Tests.{clash-of}
 use Rattle.block_state.specs.State as state
 use Rattle.request_block2.specs.Block2 as block2
 use Rattle.request_block1.specs.Block1 as block1

@@ -24,7 +24,7 @@ use Rattle.request_block2.specs.Block2 as block2
 use Rattle.request_block1.specs.Block1 as block1
 use Rattle.request_step.specs.Step as step
 use Rattle.response_step.specs.Step as reply
-use Rattle.block_state.proofs.Tests.{by-cases, on-test, clash-of}
+use Rattle.pieces.proofs.Tests.{by-cases, on-test, clash-of}
 use Rattle.keys.specs.Keys as keys
 use Rattle.entries.specs.Entries.{free, live}
 use Rattle.entries.specs.Entries as entries

@@ -13,7 +13,7 @@ use Rattle.entries.specs.declared.Entry.{Entry}
 use Rattle.keys.specs.Keys.{same, keyOf, isNoKey}
 use Rattle.entries.specs.Entries.{free, holds, live, swept, unused, entryOk}
 use Rattle.entries.proofs.Entries.{live-used, swept-live, swept-dead}
-use Rattle.block_state.proofs.Tests.{ands}
+use Rattle.pieces.proofs.Tests.{ands}
 use Rattle.entries.specs.Quick.{holdsLive, notLive, sized, unexpired}
 use Rattle.keys.proofs.Turns.{zeros}
 

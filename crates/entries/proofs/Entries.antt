@@ -9,7 +9,7 @@ use borrow.Author.Tests.{leb-true, lt-ltb, le-leb, not-true}
 use Rattle.block_state.specs.declared.Config.{Config}
 use Rattle.block_state.specs.declared.BlockState.{BlockState}
 use Rattle.block_state.specs.State.{stateOk}
-use Rattle.block_state.proofs.Tests.{ands, and-left, and-right, and-both, clash-of, by-cases}
+use Rattle.pieces.proofs.Tests.{ands, and-left, and-right, and-both, clash-of, by-cases}
 use Rattle.block_state.proofs.Fits.{StateFits, state-fits, fits-state, nothing-empty}
 use Rattle.keys.specs.declared.Key.{Key}
 use Rattle.entries.specs.declared.Entry.{Entry}

@@ -12,7 +12,7 @@ use Rattle.keys.specs.Keys.{same, keyOf, storedOk}
 use Rattle.entries.specs.Entries.{holds, entryOk, clash, live}
 use Rattle.entries.specs.Quick.{tagOf, holdsLive}
 use Rattle.entries.proofs.Entries.{live-used}
-use Rattle.block_state.proofs.Tests.{and-left, and-right, refute}
+use Rattle.pieces.proofs.Tests.{and-left, and-right, refute}
 use Rattle.keys.proofs.Keys.{same-eq}
 
 -- ---- a clash

@@ -7,7 +7,7 @@ use lib.ListN.{length, replicate}
 use lib.Seq.{take-append-seam}
 use lib.Dec.{leb, eqb}
 use borrow.Author.Tests.{leb-true, eqb-true, eq-eqb}
-use Rattle.block_state.proofs.Tests.{and-left, and-right, and-both}
+use Rattle.pieces.proofs.Tests.{and-left, and-right, and-both}
 use Rattle.keys.specs.Keys.{same, keyOk, keyOf, storedOk, stored, noKey, isNoKey}
 
 pub same-refl : (s : List ℕ) → same s s ≡ true

@@ -5,7 +5,7 @@ use mathlib.Core.Path.{_≡_, refl}
 use mathlib.Core.List.{List, [], _∷_}
 use native.Mathlib.Omega.{arith}
 use lib.ListN.{length, getD}
-use Rattle.block_state.proofs.Tests.{and-left, and-right, and-both, clash-of}
+use Rattle.pieces.proofs.Tests.{and-left, and-right, and-both, clash-of}
 use Rattle.keys.specs.Lists.{find, all}
 
 module _ {A : Type 0} (p : A → Bool) (d : A) where

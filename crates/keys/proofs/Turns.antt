@@ -12,7 +12,7 @@ use borrow.Author.Tests.{eq-eqb, ne-eqb, eqb-true, eqb-false}
 use Rattle.keys.specs.declared.Key.{Key}
 use Rattle.keys.specs.Lists.{find, all}
 use Rattle.keys.specs.Keys.{same, keyOf}
-use Rattle.block_state.proofs.Tests.{and-left, and-right}
+use Rattle.pieces.proofs.Tests.{and-left, and-right}
 
 module _ {A : Type 0} where
   pub drop-step : (l : List A) (i : ℕ) (d : A) → i < length l → drop i l ≡ getD l i d ∷ drop (i + 1) l

@@ -11,7 +11,7 @@ use Rattle.block_state.specs.declared.Answer.the-variants.{Refused}
 use Rattle.block_state.specs.Message.{Request}
 use Rattle.request_step.specs.Step.{stepRequest}
 use Rattle.block_state.specs.Contract.{Room}
-use Rattle.block_state.proofs.Tests.{ands}
+use Rattle.pieces.proofs.Tests.{ands}
 use Rattle.block_state.proofs.Fits.{StateFits, state-fits, assembled-most}
 use Rattle.keys.specs.Keys.{same, keyOf}
 use Rattle.entries.specs.declared.Entry.{Entry}

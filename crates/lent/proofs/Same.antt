@@ -9,7 +9,7 @@ use native.Mathlib.Omega.{arith}
 use borrow.Author.Tests.{eqb-true, eq-eqb, lt-ltb, le-ltb, le-leb, lt-leb}
 use Rattle.pieces.specs.Memory.{pieceOf, putPiece}
 use Rattle.pieces.proofs.Memory.{piece-order, length-piece}
-use Rattle.block_state.proofs.Tests.{ands}
+use Rattle.pieces.proofs.Tests.{ands}
 use Rattle.block_state.proofs.Fits.{fits-state}
 use Rattle.block_state.specs.declared.Config.{Config}
 use Rattle.block_state.specs.Message.{Request, request}

@@ -5,7 +5,7 @@ use mathlib.Core.Path.{_≡_, sym}
 use lib.ListN.{set}
 use lib.Dec.{T as Holds, ltb}
 use borrow.Author.Tests.{not-true, ltb-true}
-use Rattle.block_state.proofs.Tests.{ands}
+use Rattle.pieces.proofs.Tests.{ands}
 use Rattle.block_table.specs.declared.Table.{Table}
 use Rattle.block_handler.specs.declared.Change.{Change}
 use Rattle.block_handler.specs.Contract.{changed}

@@ -8,6 +8,7 @@ use lib.Dec.{leb, eqb}
 use lib.ListN.{length, take, drop, getD, length-drop, length-take}
 use lib.Seq.{drop-drop, length-take-le}
 use borrow.Author.Tests.{le-leb, lt-leb, eq-eqb, ne-eqb, leb-true, eqb-true}
+use Rattle.pieces.proofs.Tests.{both}
 use Rattle.message.specs.Format.{CoapOption, Options, broken, options, optionsOf, payloadBytes, malformed, headOk, meaningWith, meaningOf}
 use Rattle.message.specs.Format as format
 use Rattle.message.specs.Reader.{between, endsOf, readingOf, readOf}
@@ -41,11 +42,6 @@ module _ (first code n : ℕ) where
       pub head-empty : first % 16 ≤ n → code ≡ 0 → eqb n 0 ≡ headOk first code n
       unfolding headOk
       head-empty p z = rw (eq-eqb (first / 64) 1 v, le-leb (first % 16) 8 t, le-leb (first % 16) n p, eq-eqb code 0 z)
-
-pub both : (a b : Bool) → (a && b) ≡ true → (a ≡ true) × (b ≡ true)
-both true true e = (refl, refl)
-both true false e = (refl, e)
-both false b e = (e, absurd (let z : _≡_ {A = ℕ} 0 1 = cc in omega arith))
 
 pub record Headed (first code n : ℕ) : Type 0 where
   pub version : first / 64 ≡ 1

@@ -8,10 +8,11 @@ use lib.Dec.{leb, ltb, eqb}
 use lib.ListN.{length, take, drop, getD, length-append}
 use lib.Seq.{take-at, drop-at}
 use borrow.Author.Tests.{lt-ltb, le-ltb, ltb-true, ltb-false, leb-true, eqb-true, eqb-false, eq-eqb, ne-eqb}
+use Rattle.pieces.proofs.Tests.{both}
 use Rattle.message.specs.Format.{CoapOption, Message, nibbleOf, extension, optionHead, optionBytes, optionsBytes, payloadBytes, headBytes, bytesOf, optionsOk, emptyOk, encodable, extras, extended, valueFrom, valueTo, marked, optionIn, nextIn, Options, options, withOption, onNext, optionsIn, optionsOf, headOk, meaningWith, meaningOf, malformed, means}
 use Rattle.message.specs.declared.Next.the-variants.{Option, End}
 use Rattle.message.proofs.Laws.{option-is, next-option, options-more, options-end}
-use Rattle.message.proofs.Messages.{both, head-full, head-empty}
+use Rattle.message.proofs.Messages.{head-full, head-empty}
 
 -- ---- a delta or a length
 

@@ -1,4 +1,3 @@
-pub mod Tests
 pub mod Heads
 pub mod Measures
 pub mod Ahead

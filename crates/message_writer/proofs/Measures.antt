@@ -12,7 +12,7 @@ use borrow.Author.Tests.{leb-true, eqb-true, le-leb, eq-eqb}
 use Rattle.message.specs.Format.{optionsBytes, optionsOk}
 use Rattle.message_writer.specs.Writer.{optionsFrom, total, describes, optionLength, optionFits, roomAfterOption, optionsFit, roomAfter}
 use Rattle.message_writer.specs.declared.Room.the-variants.{Left, Small}
-use Rattle.message_writer.proofs.Tests.{and-left, and-right, refute, same-test}
+use Rattle.pieces.proofs.Tests.{and-left, and-right, refute, same-test}
 
 -- ---- one option
 

@@ -13,7 +13,7 @@ use Rattle.pieces.proofs.Memory.{part-patch}
 use Rattle.message.specs.Format.{bytesOf, encodable}
 use Rattle.message_writer.specs.Writer.{Given, Writes, describes, messageOf, takes}
 use Rattle.message_writer.specs.declared.Writing.the-variants.{Written, Refused}
-use Rattle.message_writer.proofs.Tests.{and-left, and-right}
+use Rattle.pieces.proofs.Tests.{and-left, and-right}
 
 pub record Described (room : ℕ) (g : Given) : Type 0 where
   pub described : describes (g .numbers) (g .lengths) (g .values) ≡ true

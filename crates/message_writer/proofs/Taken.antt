@@ -13,7 +13,7 @@ use Rattle.message.specs.Format.{bytesOf, headBytes, optionsBytes, payloadBytes
 use Rattle.message_writer.specs.Writer.{Given, Writes, optionsFrom, describes, messageOf, takes, roomAfter, optionsFit, opening}
 use Rattle.message_writer.specs.declared.Writing.the-variants.{Written, Refused}
 use Rattle.message_writer.specs.declared.Room.the-variants.{Left, Small}
-use Rattle.message_writer.proofs.Tests.{and-left, and-right, refute, same-test}
+use Rattle.pieces.proofs.Tests.{and-left, and-right, refute, same-test}
 use Rattle.message_writer.proofs.Measures.{described, describes-by, all-fit, fit-all, left-test, small-test}
 
 -- the bytes of the options that are given

@@ -8,16 +8,13 @@ use native.Mathlib.Omega.{arith}
 use lib.Dec.{ltb}
 use lib.ListN.{length, getD}
 use borrow.Author.Tests.{ltb-true}
+use Rattle.pieces.proofs.Tests.{both}
 use Rattle.option_table.specs.Options.{table, numbers}
 
 -- each number is above the one before it, and the first above `low`
 abbrev risingFrom : ℕ → List ℕ → Bool
 risingFrom low [] = true
 risingFrom low (n ∷ l) = ltb low n && risingFrom n l
-
-both : (a b : Bool) → (a && b) ≡ true → (a ≡ true) × (b ≡ true)
-both true b t = (refl, t)
-both false b t = (t, cc)
 
 above : (low : ℕ) (l : List ℕ) → risingFrom low l ≡ true → (k : ℕ) → k < length l → low < getD l k 0
 above low [] t k h = absurd (omega arith)

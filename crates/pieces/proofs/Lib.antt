@@ -1,3 +1,4 @@
 pub mod Memory
 pub mod Loops
 pub mod Puts
+pub mod Tests

@@ -9,7 +9,7 @@ use lib.Dec.{leb, ltb, eqb}
 use borrow.Author.Tests.{lt-ltb, lt-leb, leb-true, ltb-true}
 use Rattle.digest.specs.Digest.{digestOf, folded, pairs}
 use Rattle.block_state.specs.declared.Config.{Config}
-use Rattle.block_state.proofs.Tests.{and-left, and-right, by-cases}
+use Rattle.pieces.proofs.Tests.{and-left, and-right, by-cases}
 use Rattle.keys.specs.Lists.{find, all}
 use Rattle.keys.specs.Keys.{keyOk}
 use Rattle.keys.proofs.Turns.{drop-step, all-go, all-end, find-go, find-here}

@@ -9,7 +9,7 @@ use lib.ListN.{length, List·getD-eq-default}
 use lib.Dec.{ltb}
 use borrow.Author.Tests.{ltb-true, ltb-false, lt-ltb, le-ltb, not-true}
 use Rattle.block_state.specs.State.{nothing}
-use Rattle.block_state.proofs.Tests.{false-is-not, refute, clash-of, by-cases}
+use Rattle.pieces.proofs.Tests.{false-is-not, refute, clash-of, by-cases}
 use Rattle.entries.specs.declared.Entry.{Entry}
 use Rattle.keys.specs.Lists.{find}
 use Rattle.keys.specs.Keys.{same, keyOf, stored}

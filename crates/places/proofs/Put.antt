@@ -7,7 +7,7 @@ use native.Mathlib.Omega.{arith}
 use lib.ListN.{length, set, length-set}
 use Rattle.block_state.specs.declared.Config.{Config}
 use Rattle.block_state.specs.declared.BlockState.{BlockState}
-use Rattle.block_state.proofs.Tests.{by-cases}
+use Rattle.pieces.proofs.Tests.{by-cases}
 use Rattle.block_state.proofs.Fits.{StateFits, nothing-fits}
 use Rattle.entries.specs.declared.Entry.{Entry}
 use Rattle.block_table.specs.declared.Table.{Table}

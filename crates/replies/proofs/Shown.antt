@@ -13,7 +13,7 @@ use Rattle.negotiation.specs.declared.MaybeBlock.{MaybeBlock}
 use Rattle.negotiation.specs.declared.MaybeBlock.the-variants.{Absent, Given}
 use Rattle.block_state.specs.declared.Answer.{Answer}
 use Rattle.block_state.specs.declared.Answer.the-variants.{Continue, TooLarge, Handed, Pass, Served, Plain, Whole, First, Refused}
-use Rattle.block_state.proofs.Tests.{by-cases}
+use Rattle.pieces.proofs.Tests.{by-cases}
 use Rattle.answers.specs.declared.Source.{Source}
 use Rattle.answers.specs.declared.Source.the-variants.{Nothing, Message, Within}
 use Rattle.answers.specs.declared.Shows.{Shows}

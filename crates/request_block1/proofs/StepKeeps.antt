@@ -24,7 +24,7 @@ use Rattle.block_state.specs.declared.Answer.the-variants.{Continue, Handed, Re
 use Rattle.block_state.specs.State.{assembly, withAssembled}
 use Rattle.block_state.specs.Step.{bytesFrom}
 use Rattle.request_block1.specs.Block1.{badForm, notNext, lengthMet, taken, onSplice, block1Given}
-use Rattle.block_state.proofs.Tests.{on-test}
+use Rattle.pieces.proofs.Tests.{on-test}
 use Rattle.block_state.proofs.Fits.{StateFits, assembled-most, assembly-ok, Held}
 use Rattle.block_state.proofs.StepKeeps.{Keeps, as-it-was}
 use Rattle.request_block2.proofs.StepKeeps.{onward-keeps}

@@ -19,7 +19,7 @@ use Rattle.block_state.specs.declared.Config.{Config}
 use Rattle.block_state.specs.declared.Assembled.{Assembled}
 use Rattle.block_state.specs.declared.BlockState.{BlockState}
 use Rattle.block_state.specs.declared.Answer.the-variants.{Continue, Handed, Refused}
-use Rattle.block_state.proofs.Tests.{and-left}
+use Rattle.pieces.proofs.Tests.{and-left}
 use Rattle.block_state.specs.State.{assembly, withAssembled}
 use Rattle.block_state.specs.Step.{left, bytesFrom}
 use Rattle.request_block2.specs.Block2.{onward}

@@ -15,7 +15,7 @@ use Rattle.block_state.specs.declared.Answer.{Answer}
 use Rattle.block_state.specs.declared.Answer.the-variants.{Refused}
 use Rattle.block_state.specs.State.{withRecorded}
 use Rattle.request_block2.specs.Block2.{served, onward}
-use Rattle.block_state.proofs.Tests.{on-test}
+use Rattle.pieces.proofs.Tests.{on-test}
 use Rattle.block_state.proofs.Fits.{StateFits, kept-ok, Held, recording-ok}
 use Rattle.block_state.proofs.StepKeeps.{Keeps, as-it-was}
 

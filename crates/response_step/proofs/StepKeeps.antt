@@ -19,7 +19,7 @@ use Rattle.block_state.specs.declared.Answer.the-variants.{Plain, Whole, Refuse
 use Rattle.block_state.specs.Message.{Response}
 use Rattle.block_state.specs.State.{recordedBlock}
 use Rattle.response_step.specs.Step.{chunked, onReply, stepResponse}
-use Rattle.block_state.proofs.Tests.{on-test}
+use Rattle.pieces.proofs.Tests.{on-test}
 use Rattle.block_state.proofs.Fits.{StateFits, caching-ok}
 use Rattle.block_state.proofs.StepKeeps.{Keeps, as-it-was}
 

@@ -5,7 +5,7 @@ use lib.Dec.{leb}
 use borrow.Author.Tests.{leb-true}
 use Rattle.keys.specs.Keys.{keyOf}
 use Rattle.entries.specs.Quick.{tagOf}
-use Rattle.block_state.proofs.Tests.{and-right}
+use Rattle.pieces.proofs.Tests.{and-right}
 use borrow.Author.Needs.{needs}
 use Rattle.entries.proofs.tag.Statement.{statement}
 use Rattle.entries.proofs.tag.Tie as tie

@@ -1,4 +1,4 @@
--- Laws of Bool tests: what a conjunction says, how a test is refuted, and what a test decides. Assumes nothing.
+-- Laws of Bool tests: what a conjunction says, how a test is refuted, what a test decides, and when two tests are the same. Assumes nothing.
 use mathlib.Core.Bool.{Bool, true, false, cond, not, _&&_, true≢false, false≢true}
 use mathlib.Core.Path.{_≡_, refl, sym, _∙_}
 
@@ -12,6 +12,9 @@ and-right false b e = absurd (false≢true e)
 
 -- `search ands` takes a conjunct out of a conjunction that is given
 pub ruleset ands = (and-left, and-right)
+
+pub both : (a b : Bool) → (a && b) ≡ true → (a ≡ true) × (b ≡ true)
+both a b e = (and-left a b e, and-right a b e)
 
 pub and-both : (a b : Bool) → a ≡ true → b ≡ true → (a && b) ≡ true
 and-both true b p q = q
@@ -38,3 +41,10 @@ by-cases false t f = f refl
 pub on-test : {A : Type 0} (P : A → Type 0) (b : Bool) {x y : A} → (b ≡ true → P x) → (b ≡ false → P y) → P (cond b x y)
 on-test P true t f = t refl
 on-test P false t f = f refl
+
+-- each holds where the other does
+pub same-test : (a b : Bool) → (a ≡ true → b ≡ true) → (b ≡ true → a ≡ true) → a ≡ b
+same-test true true f g = refl
+same-test true false f g = sym (f refl)
+same-test false true f g = g refl
+same-test false false f g = refl
