@@ -21,7 +21,8 @@ extern "C" {
 /* Why a message is not read or not written. */
 enum block_handler_message_refusal {
     BLOCK_HANDLER_MALFORMED = 11,  /* Not a message, or one with an option number above 65535. No part of it is shown. */
-    BLOCK_HANDLER_NOT_WRITTEN = 21 /* No such message has an encoding, or the output is too small. The output is as it was. */
+    BLOCK_HANDLER_NOT_WRITTEN = 21 /* No such message has an encoding, what is given describes none, or the output is too small. The output is as it
+                                      was. */
 };
 
 enum block_handler_message_type {
@@ -48,7 +49,7 @@ struct block_handler_message {
 enum block_handler_option_kind {
     BLOCK_HANDLER_NO_OPTION = 0, /* The options end there. Of block_handler_nth_option: there is no such option. */
     BLOCK_HANDLER_OPTION = 1,
-    BLOCK_HANDLER_BAD_OPTION = 2 /* Malformed: never in a message that was read. */
+    BLOCK_HANDLER_BAD_OPTION = 2 /* Malformed: never where the options of a message that was read are followed from the first. */
 };
 
 /* An option and where its value stands in the message: from <= to <= its length. Without an option, both are 0. */

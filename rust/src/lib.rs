@@ -8,8 +8,8 @@
 //! Sockets and clocks stay with the caller. A call is told the time, a key that tells transfers apart (as sender, method and path), the
 //! bytes of the two Block options and the payload.
 //!
-//! [`Message`] reads a CoAP message (RFC 7252) where it stands, and [`Draft`] writes one into a lent buffer: ported and proved likewise,
-//! from coap-lite's `Packet`. What is no message is refused ([`Malformed`]), and so is what has no encoding ([`NotWritten`]).
+//! [`Message`] reads a CoAP message (RFC 7252) where it stands, and [`Draft`] writes one into a lent buffer: written from
+//! the RFC and proved likewise, under the names of coap-lite's `Packet` where they fit. What is no message is refused ([`Malformed`]), and so is what has no encoding ([`NotWritten`]).
 //!
 //! # A price list, pushed in blocks
 //!

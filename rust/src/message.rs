@@ -4,7 +4,7 @@ use std::iter::FusedIterator;
 
 use crate::ffi::{self, ReadMessage};
 
-/// How a message is to be answered.
+/// A message's type.
 #[derive(Debug, Clone, Copy, PartialEq, Eq, Hash, Default)]
 pub enum MessageType {
     /// CON
@@ -188,7 +188,7 @@ pub fn length_allowed(number: u16, len: usize) -> Option<bool> {
 #[derive(Debug, Clone, Copy, PartialEq, Eq, Hash)]
 pub struct Malformed;
 
-/// Refusal 21: no such message has an encoding, or the output is too small for it.
+/// Refusal 21: no such message has an encoding, what is given describes none, or the output is too small for it.
 #[derive(Debug, Clone, Copy, PartialEq, Eq, Hash)]
 pub struct NotWritten;
 

@@ -1,14 +1,14 @@
 -- The laws of the format's definitions, by their cases: nibbles, one option, all options, a whole message. Assumes nothing.
 use mathlib.Core.Path.{_≡_, refl, sym, ap, _∙_}
 use mathlib.Core.Bool.{Bool, true, false, cond, _&&_}
-use mathlib.Core.List.{List, [], _∷_, _++_}
+use mathlib.Core.List.{List, [], _∷_}
 use Prim.Native.Nat.{ℕ, zero, suc, _+_, _-_, _*_, _/_, _%_, _≤_, _<_}
 use native.Mathlib.Nat.{add-zero}
 use native.Mathlib.Omega.{arith}
-use lib.Dec.{leb, ltb, eqb}
+use lib.Dec.{ltb, eqb}
 use lib.ListN.{length, take, drop, getD, length-drop, drop-of-length-le}
 use lib.Seq.{getD-drop, drop-drop, take-all}
-use borrow.Author.Tests.{lt-ltb, le-ltb, le-leb, lt-leb, eq-eqb, ne-eqb, ltb-true, ltb-false, leb-true, eqb-true, eqb-false}
+use borrow.Author.Tests.{lt-ltb, le-ltb, eq-eqb, ne-eqb, ltb-false, eqb-true}
 use Rattle.message.specs.Format.{CoapOption, payloadBytes, extras, extended, valueFrom, valueTo, optionIn, marked, nextIn, Options, broken, options, withOption, onNext, optionsIn, optionsOf}
 use Rattle.message.specs.Reader.{between, endsOf, RunOf, counted, nextAt, onFound, foundIn, foundFrom}
 use Rattle.message.specs.declared.Next.{Next}
@@ -16,10 +16,8 @@ use Rattle.message.specs.declared.Next.the-variants.{Option, End, Malfor
 use Rattle.message.specs.declared.Run.{Run}
 use Rattle.message.specs.declared.Run.the-variants as run-variants
 use Rattle.message.specs.declared.Run.the-variants.{More}
-use Rattle.message.specs.declared.Ends.{Ends}
 use Rattle.message.specs.declared.Ends.the-variants as ends-variants
 use Rattle.message.specs.declared.Ends.the-variants.{Left}
-use Rattle.message.specs.declared.Found.{Found}
 use Rattle.message.specs.declared.Found.the-variants.{At, Absent}
 
 -- ---- a nibble and what extends it

@@ -5,7 +5,7 @@ use mathlib.Core.List.{List, [], _∷_}
 use Prim.Native.Nat.{ℕ, suc, _+_, _-_, _*_, _/_, _%_, _≤_, _<_}
 use native.Mathlib.Omega.{arith}
 use lib.Dec.{leb, eqb}
-use lib.ListN.{length, take, drop, getD, length-drop, length-take}
+use lib.ListN.{length, take, drop, getD, length-drop}
 use lib.Seq.{drop-drop, length-take-le}
 use borrow.Author.Tests.{le-leb, lt-leb, eq-eqb, ne-eqb, leb-true, eqb-true}
 use Rattle.pieces.proofs.Tests.{both}
@@ -14,7 +14,6 @@ use Rattle.message.specs.Format as format
 use Rattle.message.specs.Reader.{between, endsOf, readingOf, readOf}
 use Rattle.message.specs.declared.Ends.{Ends}
 use Rattle.message.specs.declared.Ends.the-variants as ends-variants
-use Rattle.message.specs.declared.Reading.{Reading}
 use Rattle.message.specs.declared.Reading.the-variants.{Message, Refused}
 use Rattle.message.proofs.Laws.{LeftOf, options-left}
 

@@ -2,14 +2,14 @@
 use mathlib.Core.Path.{_≡_, refl, sym, ap, _∙_}
 use mathlib.Core.Bool.{Bool, true, false, cond, _&&_}
 use mathlib.Core.List.{List, [], _∷_, _++_, append-assoc}
-use Prim.Native.Nat.{ℕ, zero, suc, _+_, _-_, _*_, _/_, _%_, _≤_, _<_}
+use Prim.Native.Nat.{ℕ, _+_, _-_, _*_, _/_, _%_, _≤_, _<_}
 use native.Mathlib.Omega.{arith}
 use lib.Dec.{leb, ltb, eqb}
-use lib.ListN.{length, take, drop, getD, length-append}
+use lib.ListN.{length, take, drop, length-append}
 use lib.Seq.{take-at, drop-at}
-use borrow.Author.Tests.{lt-ltb, le-ltb, ltb-true, ltb-false, leb-true, eqb-true, eqb-false, eq-eqb, ne-eqb}
+use borrow.Author.Tests.{ltb-true, ltb-false, leb-true, eqb-true, eqb-false, eq-eqb, ne-eqb}
 use Rattle.pieces.proofs.Tests.{both}
-use Rattle.message.specs.Format.{CoapOption, Message, nibbleOf, extension, optionHead, optionBytes, optionsBytes, payloadBytes, headBytes, bytesOf, optionsOk, emptyOk, encodable, extras, extended, valueFrom, valueTo, marked, optionIn, nextIn, Options, options, withOption, onNext, optionsIn, optionsOf, headOk, meaningWith, meaningOf, malformed, means}
+use Rattle.message.specs.Format.{CoapOption, Message, nibbleOf, extension, optionHead, optionBytes, optionsBytes, payloadBytes, headBytes, bytesOf, optionsOk, emptyOk, encodable, extras, extended, valueFrom, valueTo, marked, optionIn, nextIn, options, withOption, optionsOf, headOk, meaningWith, meaningOf, malformed, means}
 use Rattle.message.specs.declared.Next.the-variants.{Option, End}
 use Rattle.message.proofs.Laws.{option-is, next-option, options-more, options-end}
 use Rattle.message.proofs.Messages.{head-full, head-empty}

@@ -7,11 +7,10 @@ use native.Mathlib.Omega.{arith}
 use lib.Dec.{eqb}
 use lib.ListN.{length, take, drop, length-append, length-drop, drop-of-length-le}
 use lib.Seq.{drop-drop, length-take-le, take-at, drop-at, take-all}
-use borrow.Author.Tests.{eqb-true, eqb-false, eq-eqb, ne-eqb}
 use Rattle.pieces.specs.Memory.{within}
 use Rattle.pieces.proofs.Memory.{within-there}
-use Rattle.message.specs.Format.{CoapOption, Message, Bytes, optionsBytes, payloadBytes, headBytes, bytesOf, nextIn, Options, broken, options, withOption, onNext, optionsIn, optionsOf, malformed, means, headOk, meaningWith, meaningOf}
-use Rattle.message.specs.Reader.{packetOf, withoutPayload, counted, nextAt, foundFrom, Value, none, value, nthOf, valueAt}
+use Rattle.message.specs.Format.{CoapOption, Message, Bytes, optionsBytes, payloadBytes, headBytes, bytesOf, nextIn, Options, broken, options, onNext, optionsIn, optionsOf, malformed, means, headOk, meaningWith, meaningOf}
+use Rattle.message.specs.Reader.{packetOf, withoutPayload, counted, nextAt, foundFrom, value, nthOf, valueAt}
 use Rattle.message.specs.declared.Next.{Next}
 use Rattle.message.specs.declared.Next.the-variants.{Option, End, Malformed}
 use Rattle.message.proofs.Laws.{next-bounds, options-more, options-end, options-bad, options-left, no-options, end-no-option, with-tells, found-none, found-on, found-here}
@@ -110,7 +109,7 @@ module _ (bytes : List ℕ) (m : Message) (is : meaningOf bytes ≡ means m) whe
       ∙ parts bytes m is .payload
 
   module _ (b : Bytes bytes) where
-    same : bytes ≡ headBytes m ++ (m .token ++ (optionsBytes 0 (m .options) ++ payloadBytes (m .payload)))
+    same : bytes ≡ (headBytes (m .messageType) (m .code) (m .messageId) (length (m .token))) ++ (m .token ++ (optionsBytes 0 (m .options) ++ payloadBytes (m .payload)))
     unfolding bytesOf
     same = sym (write-back bytes m b is .same)
 
@@ -124,9 +123,9 @@ module _ (bytes : List ℕ) (m : Message) (is : meaningOf bytes ≡ means m) whe
         let from : ℕ = 4 + length (m .token) in
         let to : ℕ = length bytes - length (payloadBytes (m .payload)) in
         let span : to - from ≡ length (optionsBytes 0 (m .options)) = omega (arith, sizes) in
-        let front : List ℕ = headBytes m ++ m .token in
-        let long : length front ≡ from = omega (arith, length-append (headBytes m) (m .token)) in
-        let whole : bytes ≡ front ++ (optionsBytes 0 (m .options) ++ payloadBytes (m .payload)) = same ∙ sym (append-assoc (headBytes m) (m .token) (optionsBytes 0 (m .options) ++ payloadBytes (m .payload))) in
+        let front : List ℕ = (headBytes (m .messageType) (m .code) (m .messageId) (length (m .token))) ++ m .token in
+        let long : length front ≡ from = omega (arith, length-append ((headBytes (m .messageType) (m .code) (m .messageId) (length (m .token)))) (m .token)) in
+        let whole : bytes ≡ front ++ (optionsBytes 0 (m .options) ++ payloadBytes (m .payload)) = same ∙ sym (append-assoc ((headBytes (m .messageType) (m .code) (m .messageId) (length (m .token)))) (m .token) (optionsBytes 0 (m .options) ++ payloadBytes (m .payload))) in
         sym (within-there bytes from to (omega (arith, sizes)) (omega arith))
         ∙ ap (take (to - from)) (ap (drop from) whole ∙ drop-at front (optionsBytes 0 (m .options) ++ payloadBytes (m .payload)) from long)
         ∙ take-at (optionsBytes 0 (m .options)) (payloadBytes (m .payload)) (to - from) (sym span)

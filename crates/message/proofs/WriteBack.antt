@@ -1,14 +1,14 @@
 -- What is read and written again is the same bytes: a message that is taken has one encoding. Assumes nothing.
 use mathlib.Core.Path.{_≡_, refl, sym, ap, _∙_}
-use mathlib.Core.Bool.{Bool, true, false, cond, _&&_}
+use mathlib.Core.Bool.{Bool, true, false, cond}
 use mathlib.Core.List.{List, [], _∷_, _++_, append-assoc}
 use Prim.Native.Nat.{ℕ, zero, suc, _+_, _-_, _*_, _/_, _%_, _≤_, _<_}
 use native.Mathlib.Omega.{arith}
-use lib.Dec.{leb, ltb, eqb}
-use lib.ListN.{length, take, drop, getD, length-append, length-drop, length-take, take-append-drop}
+use lib.Dec.{eqb}
+use lib.ListN.{length, take, drop, length-append, length-drop, take-append-drop}
 use lib.Seq.{drop-drop, getD-drop, length-take-le}
-use borrow.Author.Tests.{lt-ltb, le-ltb, le-leb, eqb-true, eqb-false, eq-eqb, ne-eqb}
-use Rattle.message.specs.Format.{CoapOption, Message, Bytes, nibbleOf, extension, optionHead, optionBytes, optionsBytes, payloadBytes, headBytes, bytesOf, optionsOk, emptyOk, encodable, extras, extended, valueFrom, valueTo, nextIn, Options, broken, options, withOption, onNext, optionsIn, optionsOf, meaningOf, means}
+use borrow.Author.Tests.{lt-ltb, le-ltb, le-leb, eqb-true, eqb-false, eq-eqb}
+use Rattle.message.specs.Format.{CoapOption, Message, Bytes, nibbleOf, extension, optionHead, optionBytes, optionsBytes, payloadBytes, headBytes, bytesOf, optionsOk, emptyOk, encodable, extras, extended, nextIn, options, onNext, optionsIn, meaningOf, means}
 use Rattle.message.specs.declared.Next.{Next}
 use Rattle.message.specs.declared.Next.the-variants.{Option, End, Malformed}
 use Rattle.message.proofs.Laws.{IsOption, next-tells, end-no-option, no-options, with-tells, options-left}

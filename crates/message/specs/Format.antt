@@ -1,6 +1,6 @@
 -- RFC 7252's message on lists of bytes, apart from any code: the bytes of a message, and what bytes mean.
 use Prim.Native.Nat.{ℕ, zero, suc, _+_, _-_, _*_, _/_, _%_, _<_}
-use mathlib.Core.Bool.{Bool, true, false, cond, _&&_}
+use mathlib.Core.Bool.{Bool, true, cond, _&&_}
 use mathlib.Core.List.{List, [], _∷_, _++_}
 use lib.Dec.{leb, ltb, eqb}
 use lib.ListN.{length, take, drop, getD}
@@ -51,12 +51,13 @@ payloadBytes [] = []
 payloadBytes (b ∷ payload) = 255 ∷ b ∷ payload
 
 -- "Version (2 bits, always 1), type (2 bits: ..), token length (4 bits, ..)", the code, and the message ID, big-endian.
-unfoldable pub headBytes : Message → List ℕ
-headBytes m = (64 + m .messageType * 16 + length (m .token)) ∷ m .code ∷ (m .messageId / 256) ∷ (m .messageId % 256) ∷ []
+unfoldable pub headBytes : ℕ → ℕ → ℕ → ℕ → List ℕ
+headBytes messageType code messageId tokenLength = (64 + messageType * 16 + tokenLength) ∷ code ∷ (messageId / 256) ∷ (messageId % 256) ∷ []
 
 -- "Then the token, the options, and .. the payload."
 unfoldable pub bytesOf : Message → List ℕ
-bytesOf m = headBytes m ++ (m .token ++ (optionsBytes 0 (m .options) ++ payloadBytes (m .payload)))
+bytesOf m =
+    headBytes (m .messageType) (m .code) (m .messageId) (length (m .token)) ++ (m .token ++ (optionsBytes 0 (m .options) ++ payloadBytes (m .payload)))
 
 -- Numbers never fall and are at most 65,535; "269 to 65,804" is the last range of a length.
 unfoldable pub optionsOk : ℕ → List CoapOption → Bool

@@ -42,14 +42,14 @@ pub enum Next {
 }
 
 // What a run of options comes to: how many bytes are left after it, with the last number; or at the end of the options.
-pub enum Run {
+enum Run {
     More { left: usize, number: u16 },
     End(usize),
     Malformed,
 }
 
 // How many bytes are left where the options end.
-pub enum Ends {
+enum Ends {
     Left(usize),
     Malformed,
 }

@@ -224,11 +224,16 @@ fn length(number: u16, len: usize) {
     print_number(number as usize);
     print_number(len);
     match option_table::length_allowed(number, len) {
-        Length::Unknown => io::write_all(1, b"unknown\n"),
-        Length::Allowed => io::write_all(1, b"allowed\n"),
-        Length::NotAllowed => io::write_all(1, b"not allowed\n"),
+        Length::Unknown => {
+            io::write_all(1, b"unknown\n");
+        }
+        Length::Allowed => {
+            io::write_all(1, b"allowed\n");
+        }
+        Length::NotAllowed => {
+            io::write_all(1, b"not allowed\n");
+        }
     }
-    ;
 }
 
 fn lengths() {

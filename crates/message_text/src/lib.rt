@@ -4,4 +4,3 @@ mod options;
 mod parts;
 
 pub use line::put_line;
-pub use line::put_message;

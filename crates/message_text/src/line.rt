@@ -8,7 +8,7 @@ ghost use Rattle.message.specs.Format.{meaningOf};
 ghost use Rattle.message_text.specs.Text.{meaningText, lineText};
 
 // What the bytes of a message mean.
-pub fn put_message(out: &mut [u8], at: usize, number: u64, message: &[u8]) -> usize
+fn put_message(out: &mut [u8], at: usize, number: u64, message: &[u8]) -> usize
     requires { ⌜ at + 8 * length (now message) + 64 ≤ length (now out) ⌝ }
     ensures { λ r. ⌜ Put (now (out .entry)) at (meaningText number (meaningOf (now (message .entry)))) (now (out .exit)) r ⌝ }
     ensures { λ r. ⌜ r ≤ at + 8 * length (now (message .entry)) + 64 ⌝ }

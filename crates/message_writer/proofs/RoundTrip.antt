@@ -1,7 +1,7 @@
 -- Writer and reader together: what is written reads back the same, what is read and written again is the same bytes, and a message is refused only
 -- if the slices do not describe one, no bytes that the reader takes mean it, or those do not fit. Assumes nothing.
 use mathlib.Core.Path.{_≡_, refl, sym, ap, _∙_}
-use mathlib.Core.Bool.{Bool, true, false, cond, _&&_}
+use mathlib.Core.Bool.{Bool, true, false, cond}
 use mathlib.Core.List.{List, [], _∷_, _++_}
 use Prim.Native.Nat.{ℕ, suc, _+_, _≤_, _<_}
 use native.Mathlib.Omega.{arith}

@@ -130,7 +130,7 @@ module _ (room : ℕ) (g : Given) (h : 4 + length (g .token) ≤ room) where
 -- ---- as it is written
 
 pub opening-length : (messageType code messageId : ℕ) (token : List ℕ) → length (opening messageType code messageId token) ≡ 4 + length token
-unfolding opening
+unfolding opening headBytes
 opening-length messageType code messageId token = omega arith
 
 module _ (out : List ℕ) (g : Given) where

@@ -1,12 +1,12 @@
 -- What the writer makes of what it is given.
-use Prim.Native.Nat.{ℕ, _+_, _-_, _*_, _/_, _%_}
+use Prim.Native.Nat.{ℕ, _+_, _-_}
 use mathlib.Core.Bool.{Bool, cond, _&&_}
 use mathlib.Core.List.{List, [], _∷_, _++_}
 use mathlib.Core.Path.{_≡_}
 use lib.Dec.{leb, eqb}
 use lib.ListN.{length, take, drop}
 use Rattle.pieces.specs.Memory.{patch}
-use Rattle.message.specs.Format.{CoapOption, Message, bytesOf, optionHead, optionsBytes, encodable, optionsOk}
+use Rattle.message.specs.Format.{CoapOption, Message, headBytes, bytesOf, optionHead, optionsBytes, encodable, optionsOk}
 use Rattle.message_writer.specs.declared.Writing.{Writing}
 use Rattle.message_writer.specs.declared.Writing.the-variants.{Written, Refused}
 use Rattle.message_writer.specs.declared.Room.{Room}
@@ -118,5 +118,4 @@ roomAfter before room numbers lengths values =
 
 -- The first bytes: the head, and the token.
 unfoldable pub opening : ℕ → ℕ → ℕ → List ℕ → List ℕ
-opening messageType code messageId token =
-    (64 + messageType * 16 + length token) ∷ code ∷ (messageId / 256) ∷ (messageId % 256) ∷ token
+opening messageType code messageId token = headBytes messageType code messageId (length token) ++ token

@@ -12,7 +12,7 @@ pub enum Writing {
 }
 
 // What is left of the output, or that it is too small or the options have no encoding.
-pub enum Room {
+enum Room {
     Left(usize),
     Small,
 }

@@ -51,9 +51,6 @@ one-digit n d h e = rw e (sym (decimal-one n h))
 pub last-digit : (n d : ℕ) → 10 ≤ n → n < 2 ^ 64 → d ≡ 48 + n % 10 → decimal (n / 10) ++ (d ∷ []) ≡ decimal n
 last-digit n d h k e = rw e (sym (decimal-more n h k))
 
-pub one-long : (n : ℕ) → n < 10 → length (decimal n) ≡ 1
-one-long n h = rw (decimal-one n h)
-
 pub one-longer : (n : ℕ) → 10 ≤ n → n < 2 ^ 64 → length (decimal n) ≡ length (decimal (n / 10)) + 1
 one-longer n h k = rw (decimal-more n h k, length-append (decimal (n / 10)) ((48 + n % 10) ∷ []))
 

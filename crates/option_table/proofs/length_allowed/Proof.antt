@@ -1,6 +1,6 @@
 -- `option_table::length_allowed` meets its contract. The loop's invariant: each number that it passed is below the one that is looked for. Where
 -- it stops at a larger one, all that are left are larger too, since the numbers rise. Assumes nothing.
-use mathlib.Core.Path.{_≡_, sym, _∙_}
+use mathlib.Core.Path.{sym, _∙_}
 use mathlib.Core.Logic.{⊎-elim}
 use Prim.Native.Nat.{ℕ, _-_, _≤_, _<_}
 use native.Mathlib.Omega.{arith}

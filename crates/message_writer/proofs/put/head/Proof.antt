@@ -1,4 +1,5 @@
 use Rattle.pieces.proofs.Puts.{put-then}
+use Rattle.message.specs.Format.{headBytes}
 use Rattle.message_writer.specs.Writer.{opening}
 use borrow.Author.Needs.{needs}
 use Rattle.message_writer.proofs.put.head.Statement.{statement}
@@ -41,7 +42,7 @@ same-length : tie.Need-same-length
 same-length c = search needs
 
 returns : tie.Need-returns
-unfolding opening
+unfolding opening headBytes
 returns c = put-then (c .before .before .before .before .before .before .before .before .before .before .before .before .before .before .before .before .before .before .put-byte .ensures) (put-then (c .before .before .before .before .before .before .before .before .before .before .before .before .before .before .put-byte2 .ensures) (put-then (c .before .before .before .before .before .before .before .before .before .before .put-byte3 .ensures) (put-then (c .before .before .before .before .before .before .put-byte4 .ensures) (c .before .before .put .ensures))))
 
 pub head-spec : {M : Type 1} → statement M
