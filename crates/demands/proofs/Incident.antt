@@ -47,14 +47,15 @@ use Rattle.demands.specs.Demand3.{block, Demand3}
 use Rattle.demands.specs.Incident.{Carries, once, twice, TailKept, Story, StartsAfresh}
 use Rattle.demands.proofs.OwnStep.{room-agreed, held-after}
 use Rattle.demands.proofs.Demand3.{demand3}
+use Rattle.demands.proofs.Computes.{calls}
 
 -- ---- strict mode
 
 pub starts-afresh : StartsAfresh call
 unfolding StartsAfresh Demand3
-starts-afresh c w k x first rest later strict o p =
+starts-afresh c w k x first rest later strict o p rise =
     demand3 c w k x first rest later
-    (record { entry = inl o; nothing = λ plain. absurd (clash-of (c .strict) strict plain); push = p })
+    (record { entry = inl o; nothing = λ plain. absurd (clash-of (c .strict) strict plain); push = p; clock = rise })
 
 -- ---- plain mode
 
@@ -133,7 +134,7 @@ tail-kept c home at s u x l first last plain hx hl h fits hu f g =
 
 -- the same by whole calls, by computation
 pub story : Story
-unfolding h.call h.withinLimits judge.configOk judge.memoriesOk h.whatOk h.callAt keys.same keys.keyOk keys.keyOf keys.storedOk keys.stored keys.isNoKey entries.holds entries.entryOk entries.clash table.distinct table.tableOk entries.live entries.swept table.sweep places.place places.opened state.assembledOk state.cachedOk state.recordedOk state.stateOk state.isNothing block1.badForm block1.notNext block1.lengthMet block2.onward block1.taken block1.onSplice block1.block1Given step.onNegotiated step.stepRequest requestBlock readOf negotiated negotiation.within replyAt made largestPower sizeOf spliceOf pieces.spliced pieceAfter patch part pieceOf putPiece memory.within
+unfolding calls
 story =
     record {
       plain = (refl, (refl, refl));
@@ -143,15 +144,17 @@ story =
         limits = refl;
         sixteen = refl;
         bytes = (((omega arith, tt), tt), (((omega arith, tt), tt), tt));
-        count = omega arith;
-        numbered = (refl, refl);
-        size = omega arith;
-        full = (refl, omega arith);
-        alone = (refl, refl);
-        room = (omega arith, omega arith);
-        fits = omega arith;
-        clock = (omega arith, (omega arith, tt));
-        prompt = (omega arith, tt);
+        blocks = record {
+          count = omega arith;
+          numbered = (refl, refl);
+          size = omega arith;
+          full = (refl, omega arith);
+          alone = (refl, refl);
+          room = (omega arith, omega arith);
+          fits = omega arith;
+          prompt = (omega arith, tt);
+        };
         own = refl;
       };
+      clock = (omega arith, (omega arith, tt));
     }

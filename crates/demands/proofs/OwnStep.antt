@@ -27,7 +27,7 @@ use Rattle.block_state.specs.declared.Answer.the-variants.{Continue, Handed}
 use Rattle.block_state.specs.Message.{Request}
 use Rattle.block_state.specs.State.{assembly, withAssembled, withRecorded}
 use Rattle.block_state.specs.Step.{left, bytesFrom}
-use Rattle.request_block1.specs.Block1.{badForm, notNext, lengthMet, taken}
+use Rattle.request_block1.specs.Block1.{badForm, notNext, lengthMet, taken, block1Given}
 use Rattle.request_step.specs.Step.{stepRequest}
 use Rattle.request_block2.proofs.Steps.{onward-absent}
 use Rattle.request_block1.proofs.Steps.{taken-more, taken-last, spliced-body, given-next}
@@ -54,63 +54,77 @@ pub record Meets (c : Config) (a : Assembled) (u : List ℕ) (x j : ℕ) (bytes 
   pub next : (m : Bool) → (c .strict && notNext a (block j m x)) ≡ false
   pub held : take (length bytes) u ≡ bytes
 
-and-false : (b : Bool) → (b && false) ≡ false
+pub and-false : (b : Bool) → (b && false) ≡ false
 and-false true = refl
 and-false false = refl
 
-form-ok : (x j p : ℕ) (m : Bool) → x ≤ 6 → Fills m p (sizeOf x) → badForm (block j m x) p ≡ false
-unfolding badForm
-form-ok x j p true hx e = rw (ne-eqb x 7 (λ e. omega arith), le-ltb (sizeOf x) p (omega arith), eq-eqb p (sizeOf x) e)
-form-ok x j p false hx h = rw (ne-eqb x 7 (λ e. omega arith), le-ltb (sizeOf x) p h)
-
-fills-most : (m : Bool) (p s : ℕ) → Fills m p s → p ≤ s
-fills-most true p s e = omega arith
-fills-most false p s h = h
+-- block j of exponent x, as the client sends it
+pub record OneBlock (c : Config) (x j : ℕ) (m : Bool) (r : Request) : Type 0 where
+  pub size : x ≤ 6
+  pub count : j ≤ 4095
+  pub numbered : requestBlock (r .block1) ≡ Given (block j m x)
+  pub full : Fills m (length (r .payload)) (sizeOf x)
+  pub alone : requestBlock (r .block2) ≡ Absent
+  pub room : r .bare + 12 + sizeOf x ≤ c .limit
 
 pub held-after : (u b : List ℕ) → take (length b) (patch u 0 b) ≡ b
 unfolding part
 held-after u b = part-patch u 0 b (omega arith)
 
-module _ (c : Config) (home at : ℕ) (s : BlockState) (u : List ℕ) (r : Request) (bytes : List ℕ) (x j : ℕ) (m : Bool)
-    (hx : x ≤ 6) (hj : j ≤ 4095) (meets : Meets c (s .assembled) u x j bytes)
-    (numbered : requestBlock (r .block1) ≡ Given (block j m x)) (full : Fills m (length (r .payload)) (sizeOf x))
-    (alone : requestBlock (r .block2) ≡ Absent) (room : r .bare + 12 + sizeOf x ≤ c .limit)
-    (fits : length (bytes ++ r .payload) ≤ c .upload) where
-  abbrev joins : List ℕ
-  joins = bytes ++ r .payload
+module _ (c : Config) (home at : ℕ) (s : BlockState) (u : List ℕ) (r : Request) (x j : ℕ) (m : Bool) (b : OneBlock c x j m r) where
+  pub fills-most : length (r .payload) ≤ sizeOf x
+  fills-most = most m (b .full)
+    where
+      most : (m : Bool) → Fills m (length (r .payload)) (sizeOf x) → length (r .payload) ≤ sizeOf x
+      most true e = omega arith
+      most false h = h
 
-  -- the block is appended to the bytes that are assembled
-  appended : pieceAfter u (length bytes) (j * sizeOf x) (sizeOf x) (r .payload) ≡ patch u 0 joins
-  unfolding pieceAfter
-  appended = rw (meets .held, ← (meets .count), spliced-next bytes (sizeOf x) (r .payload))
+  pub form-ok : (c .strict && badForm (block j m x) (length (r .payload))) ≡ false
+  unfolding badForm
+  form-ok = rw (ne-eqb x 7 (λ e. omega (arith, b .size)), le-ltb (sizeOf x) (length (r .payload)) fills-most) (well m (b .full))
+    where
+      well : (m : Bool) → Fills m (length (r .payload)) (sizeOf x) → (c .strict && (m && not (eqb (length (r .payload)) (sizeOf x)))) ≡ false
+      well true e = rw (eq-eqb (length (r .payload)) (sizeOf x) e) (and-false (c .strict))
+      well false h = and-false (c .strict)
 
-  body : spliceOf (c .upload) (length bytes) (j * sizeOf x) (sizeOf x) (length (r .payload)) ≡ Body (length joins)
-  body =
-      let n : splicedLength (length bytes) (j * sizeOf x) (sizeOf x) (length (r .payload)) ≡ length joins =
-      rw (← (meets .count), length-append bytes (r .payload)) (omega arith) in
-      splicing.taken (c .upload) (length bytes) (j * sizeOf x) (sizeOf x) (length (r .payload)) (omega (arith, meets .count, size-most x)) (omega arith)
-      ∙ ap Body n
+  -- the step goes on with the block as it was sent, and with no more in the reply
+  pub agrees : stepRequest c home at s u r ≡ block1Given c home at s u Absent (r .payload) (block j m x) (block j false x)
+  agrees =
+      let reply = room-agreed j m x (r .bare) (length (r .payload)) (c .limit) (omega (arith, b .count)) (omega (arith, b .size)) fills-most (b .room) in
+      request-given c home at s u r (Given (block j m x)) Absent (Block (block j false x)) (sym (b .numbered)) (sym (b .alone)) (sym reply) (block j m x) (block j false x) refl refl
 
-  reaches : stepRequest c home at s u r ≡ taken home at s (patch u 0 joins) Absent (block j m x) (block j false x) (length joins)
-  reaches =
-      let most : length (r .payload) ≤ sizeOf x = fills-most m (length (r .payload)) (sizeOf x) full in
-      let reply = room-agreed j m x (r .bare) (length (r .payload)) (c .limit) (omega arith) (omega arith) most room in
-      let good : (c .strict && badForm (block j m x) (length (r .payload))) ≡ false =
-      rw (form-ok x j (length (r .payload)) m hx full) (and-false (c .strict)) in
-      request-given c home at s u r (Given (block j m x)) Absent (Block (block j false x)) (sym numbered) (sym alone) (sym reply) (block j m x) (block j false x) refl refl
-      ∙ given-next c home at s u Absent (r .payload) (block j m x) (block j false x) good (meets .next m) (length bytes) (sym (meets .from m))
-      ∙ spliced-body home at s u Absent (r .payload) (block j m x) (block j false x) (length bytes) _ (length joins) body
-      ∙ rw appended
+  module _ (bytes : List ℕ) (meets : Meets c (s .assembled) u x j bytes) (fits : length (bytes ++ r .payload) ≤ c .upload) where
+    abbrev joins : List ℕ
+    joins = bytes ++ r .payload
 
-  pub own-more : m ≡ true
-      → stepRequest c home at s u r ≡ left (withAssembled s (assembly (length joins) x)) (patch u 0 joins) (Continue (block j false x))
-  own-more e = reaches ∙ taken-more home at s (patch u 0 joins) Absent (block j m x) (block j false x) (length joins) e
+    -- the block is appended to the bytes that are assembled
+    appended : pieceAfter u (length bytes) (j * sizeOf x) (sizeOf x) (r .payload) ≡ patch u 0 joins
+    unfolding pieceAfter
+    appended = rw (meets .held, ← (meets .count), spliced-next bytes (sizeOf x) (r .payload))
 
-  pub own-last : m ≡ false
-      → stepRequest c home at s u r ≡ left (withRecorded (withAssembled s (assembly 0 0)) Absent) (patch u 0 joins) (Handed (block j false x) (bytesFrom home (length joins)))
-  own-last e =
-      reaches ∙ taken-last home at s (patch u 0 joins) Absent (block j m x) (block j false x) (length joins) e
-      ∙ onward-absent at (withAssembled s (assembly 0 0)) (patch u 0 joins) Absent (Given (block j false x)) (Handed (block j false x) (bytesFrom home (length joins))) refl
+    body : spliceOf (c .upload) (length bytes) (j * sizeOf x) (sizeOf x) (length (r .payload)) ≡ Body (length joins)
+    body =
+        let n : splicedLength (length bytes) (j * sizeOf x) (sizeOf x) (length (r .payload)) ≡ length joins =
+        rw (← (meets .count), length-append bytes (r .payload)) (omega arith) in
+        splicing.taken (c .upload) (length bytes) (j * sizeOf x) (sizeOf x) (length (r .payload)) (omega (arith, meets .count, size-most x)) (omega arith)
+        ∙ ap Body n
+
+    reaches : stepRequest c home at s u r ≡ taken home at s (patch u 0 joins) Absent (block j m x) (block j false x) (length joins)
+    reaches =
+        agrees
+        ∙ given-next c home at s u Absent (r .payload) (block j m x) (block j false x) form-ok (meets .next m) (length bytes) (sym (meets .from m))
+        ∙ spliced-body home at s u Absent (r .payload) (block j m x) (block j false x) (length bytes) _ (length joins) body
+        ∙ rw appended
+
+    pub own-more : m ≡ true
+        → stepRequest c home at s u r ≡ left (withAssembled s (assembly (length joins) x)) (patch u 0 joins) (Continue (block j false x))
+    own-more e = reaches ∙ taken-more home at s (patch u 0 joins) Absent (block j m x) (block j false x) (length joins) e
+
+    pub own-last : m ≡ false
+        → stepRequest c home at s u r ≡ left (withRecorded (withAssembled s (assembly 0 0)) Absent) (patch u 0 joins) (Handed (block j false x) (bytesFrom home (length joins)))
+    own-last e =
+        reaches ∙ taken-last home at s (patch u 0 joins) Absent (block j m x) (block j false x) (length joins) e
+        ∙ onward-absent at (withAssembled s (assembly 0 0)) (patch u 0 joins) Absent (Given (block j false x)) (Handed (block j false x) (bytesFrom home (length joins))) refl
 
 -- ---- before block 0, and after any block that was taken, the entry meets the next
 

@@ -1,8 +1,8 @@
 -- What demand 3 asks for can be given, and the four shams break it. Assumes nothing.
-use Prim.Native.Nat.{ℕ, zero, suc, _+_, _-_}
+use Prim.Native.Nat.{ℕ, zero, suc, _+_, _-_, _<_}
 use mathlib.Core.Bool.{Bool, true, false, _&&_}
 use mathlib.Core.Path.{_≡_, refl, sym, _∙_, ap}
-use mathlib.Core.Logic.{inr}
+use mathlib.Core.Logic.{inl, inr}
 use mathlib.Core.List.{List, [], _∷_}
 use native.Mathlib.Omega.{arith}
 use lib.ListN.{length, getD, take, drop, replicate, getD-replicate, List·getD-eq-default, length-take}
@@ -10,31 +10,20 @@ use lib.Seq.{getD-drop, getD-take}
 use lib.Dec.{leb, ltb}
 use borrow.Author.Tests.{ltb-true, ltb-false}
 use Rattle.pieces.specs.Memory as memory
-use Rattle.splicing.specs.Splice as pieces
-use Rattle.block_value.specs.Value as value
-use Rattle.negotiation.specs.Negotiation as negotiation
-use Rattle.negotiation.specs.Chunk as chunk
+use Rattle.pieces.proofs.Tests.{by-cases, on-test, clash-of}
+use Rattle.negotiation.specs.Negotiation.{requestBlock}
 use Rattle.negotiation.specs.declared.MaybeBlock.the-variants.{Given}
 use Rattle.block_state.specs.declared.Part.{Part}
 use Rattle.block_state.specs.declared.Answer.{Answer}
 use Rattle.block_state.specs.declared.Answer.the-variants.{Continue, TooLarge, Handed, Pass, Served, Plain, Whole, First, Refused}
 use Rattle.block_state.specs.Answers.{said, continue, handed}
-use Rattle.block_state.specs.State as state
-use Rattle.request_block2.specs.Block2 as block2
-use Rattle.request_block1.specs.Block1 as block1
-use Rattle.request_step.specs.Step as step
-use Rattle.response_step.specs.Step as reply
-use Rattle.pieces.proofs.Tests.{by-cases, on-test, clash-of}
 use Rattle.keys.specs.Keys as keys
+use Rattle.entries.specs.declared.Entry.{Entry}
 use Rattle.entries.specs.Entries.{free, live}
-use Rattle.entries.specs.Entries as entries
-use Rattle.block_table.specs.Table as table
-use Rattle.places.specs.Places as places
-use Rattle.judge.specs.Limits as judge
-use Rattle.block_handler.specs.Call as h
 use Rattle.answers.specs.Parts.{partOf, bodyOf}
-use Rattle.demands.specs.Demand3.{Handler, HasFree, NothingInPlain, Granted, Demand3, callOn, block}
-use Rattle.demands.specs.Shams.{config, fresh, key, sent, firstBlock, lastBlock, later, CanBeGiven, Excluded, Exist}
+use Rattle.demands.specs.Demand3.{Handler, Sent, HasFree, HasLive, NothingInPlain, Granted, Demand3, callOn, block, entryAt}
+use Rattle.demands.specs.Shams.{config, fresh, key, sent, firstBlock, lastBlock, later, wide, used, wideFirst, wideSecond, wideLast, CanBeGiven, Excluded, Exist}
+use Rattle.demands.proofs.Computes.{values, limits, calls}
 
 -- ---- what is given can be given
 
@@ -48,7 +37,7 @@ none-live strict plain i b h y =
     absurd (clash-of false (sym (ap (λ e. live 100 5 e) (getD-replicate 16 i free free b)) ∙ y) refl)
 
 given-one : (strict : Bool) → Granted (config strict) fresh key 0 (sent 5 [] (7 ∷ [])) [] []
-unfolding h.withinLimits judge.configOk judge.memoriesOk h.whatOk keys.same keys.keyOk keys.isNoKey entries.entryOk entries.clash table.distinct table.tableOk state.isNothing negotiation.requestBlock value.readOf value.sizeOf
+unfolding values limits
 given-one strict =
     record {
       entry = inr (has-free strict);
@@ -57,21 +46,23 @@ given-one strict =
         limits = refl;
         sixteen = refl;
         bytes = ((tt, tt), tt);
-        count = omega arith;
-        numbered = refl;
-        size = omega arith;
-        full = omega arith;
-        alone = refl;
-        room = omega arith;
-        fits = omega arith;
-        clock = (omega arith, tt);
-        prompt = tt;
+        blocks = record {
+          count = omega arith;
+          numbered = refl;
+          size = omega arith;
+          full = omega arith;
+          alone = refl;
+          room = omega arith;
+          fits = omega arith;
+          prompt = tt;
+        };
         own = refl;
       };
+      clock = (omega arith, tt);
     }
 
 given-two : (strict : Bool) → Granted (config strict) fresh key 0 firstBlock (lastBlock ∷ []) later
-unfolding h.withinLimits judge.configOk judge.memoriesOk h.whatOk keys.same keys.keyOk keys.isNoKey entries.entryOk entries.clash table.distinct table.tableOk state.isNothing negotiation.requestBlock value.readOf value.sizeOf
+unfolding values limits
 given-two strict =
     record {
       entry = inr (has-free strict);
@@ -80,44 +71,85 @@ given-two strict =
         limits = refl;
         sixteen = refl;
         bytes = (((omega arith, tt), tt), (((omega arith, tt), tt), (((omega arith, tt), tt), (tt, (((omega arith, tt), tt), (((omega arith, tt), tt), tt))))));
-        count = omega arith;
-        numbered = (refl, refl);
-        size = omega arith;
-        full = (refl, omega arith);
-        alone = (refl, refl);
-        room = (omega arith, omega arith);
-        fits = omega arith;
-        clock = (omega arith, (omega arith, (omega arith, (omega arith, (omega arith, (omega arith, tt))))));
-        prompt = (omega arith, tt);
+        blocks = record {
+          count = omega arith;
+          numbered = (refl, refl);
+          size = omega arith;
+          full = (refl, omega arith);
+          alone = (refl, refl);
+          room = (omega arith, omega arith);
+          fits = omega arith;
+          prompt = (omega arith, tt);
+        };
         own = refl;
       };
+      clock = (omega arith, (omega arith, (omega arith, (omega arith, (omega arith, (omega arith, tt))))));
+    }
+
+-- the one live entry has nothing assembled, and the others are free
+none-used : (i : ℕ) → i < 16 → entryAt used i .state .assembled .len ≡ 0
+none-used zero b = refl
+none-used (suc i) b = ap (λ (e : Entry). e .state .assembled .len) (getD-replicate 15 i free free (omega arith))
+
+has-live : (strict : Bool) → HasLive (wide strict) used 6 key
+unfolding calls
+has-live strict = (0, omega arith, refl, refl)
+
+given-three : (strict : Bool) → Granted (wide strict) used key 6 wideFirst (wideSecond ∷ wideLast ∷ []) (callOn key wideSecond ∷ callOn key wideLast ∷ [])
+unfolding values limits
+given-three strict =
+    record {
+      entry = inl (has-live strict);
+      nothing = λ plain i b h l. none-used i b;
+      push = record {
+        limits = refl;
+        sixteen = refl;
+        bytes = (((omega arith, tt), tt), (((omega arith, tt), tt), (((omega arith, tt), tt), tt)));
+        blocks = record {
+          count = omega arith;
+          numbered = (refl, (refl, refl));
+          size = omega arith;
+          full = (refl, (refl, omega arith));
+          alone = (refl, (refl, refl));
+          room = (omega arith, (omega arith, omega arith));
+          fits = omega arith;
+          prompt = (omega arith, (omega arith, tt));
+        };
+        own = refl;
+      };
+      clock = (omega arith, (omega arith, (omega arith, tt)));
     }
 
 pub can-be-given : CanBeGiven
-unfolding h.withinLimits judge.configOk judge.memoriesOk h.whatOk keys.same keys.keyOk keys.isNoKey entries.entryOk entries.clash table.distinct table.tableOk state.isNothing negotiation.requestBlock value.readOf value.sizeOf h.call h.callAt keys.keyOf keys.storedOk keys.stored entries.holds entries.live entries.swept table.sweep places.place places.opened state.assembledOk state.cachedOk state.recordedOk state.stateOk block1.badForm block1.notNext block1.lengthMet block2.onward block1.taken block1.onSplice block1.block1Given step.onNegotiated step.stepRequest reply.chunked reply.onReply reply.stepResponse negotiation.negotiated negotiation.within negotiation.replyAt chunk.chunkOf value.made value.largestPower pieces.spliceOf pieces.spliced pieces.pieceAfter memory.patch memory.part memory.pieceOf memory.putPiece
+unfolding calls
 can-be-given =
     record {
       one = given-one;
       two = given-two;
       between = λ strict. elim strict [ true ↦ refl | false ↦ refl ];
       refusals = λ strict. elim strict [ true ↦ refl | false ↦ refl ];
+      live = has-live;
+      three = given-three;
     }
 
 -- ---- the shams
 
-module _ (h : Handler) (d : Demand3 h) where
+abbrev alone : Sent
+alone = sent 5 [] (7 ∷ [])
+
+module _ (h : Handler) (d : Demand3 h) (strict : Bool) where
   -- the one block is handed on, and the first of two is answered Continue
-  handed-one : said (h (config true) fresh (callOn key (sent 5 [] (7 ∷ []))) .answer) .kind ≡ handed
+  handed-one : said (h (config strict) fresh (callOn key alone) .answer) .kind ≡ handed
   unfolding Demand3 keys.same
-  handed-one = d (config true) fresh key 0 (sent 5 [] (7 ∷ [])) [] [] (given-one true) .0
+  handed-one = d (config strict) fresh key 0 alone [] [] (given-one strict) .0
 
-  shown-one : bodyOf (h (config true) fresh (callOn key (sent 5 [] (7 ∷ []))) .answer) (7 ∷ []) (h (config true) fresh (callOn key (sent 5 [] (7 ∷ []))) .world .upload) ≡ 7 ∷ []
+  shown-one : bodyOf (h (config strict) fresh (callOn key alone) .answer) (7 ∷ []) (h (config strict) fresh (callOn key alone) .world .upload) ≡ 7 ∷ []
   unfolding Demand3 keys.same
-  shown-one = d (config true) fresh key 0 (sent 5 [] (7 ∷ [])) [] [] (given-one true) .1
+  shown-one = d (config strict) fresh key 0 alone [] [] (given-one strict) .1
 
-  continued : said (h (config true) fresh (callOn key firstBlock) .answer) .kind ≡ continue
+  continued : said (h (config strict) fresh (callOn key firstBlock) .answer) .kind ≡ continue
   unfolding Demand3 keys.same
-  continued = d (config true) fresh key 0 firstBlock (lastBlock ∷ []) later (given-two true) .0
+  continued = d (config strict) fresh key 0 firstBlock (lastBlock ∷ []) later (given-two strict) .0
 
 -- no part of a memory of zeros begins with another byte
 zeros : (n i : ℕ) → getD {A = ℕ} (replicate n 0) i 0 ≡ 0
@@ -147,28 +179,30 @@ shown-zero (Whole b p) payload n e = refl
 shown-zero (First b p) payload n e = refl
 shown-zero (Refused m) payload n e = refl
 
-first-reads : negotiation.requestBlock (firstBlock .message .block1) ≡ Given (block 0 true 0)
-unfolding negotiation.requestBlock value.readOf
+first-reads : requestBlock (firstBlock .message .block1) ≡ Given (block 0 true 0)
+unfolding values
 first-reads = refl
 
 pub excluded : Excluded
 excluded =
     record {
-      refusesAll = λ h r d. let z : _≡_ {A = ℕ} 0 1 = cc (handed-one h d, r (config true) fresh (callOn key (sent 5 [] (7 ∷ [])))) in omega arith;
-      passesAll = λ h r d. let z : _≡_ {A = ℕ} 0 1 = cc (handed-one h d, r (config true) fresh (callOn key (sent 5 [] (7 ∷ [])))) in omega arith;
-      storesNothing = λ h r d.
+      refusesAll = λ b h r d. let z : _≡_ {A = ℕ} 0 1 = cc (handed-one h d b, r (config b) fresh (callOn key alone) refl) in omega arith;
+      passesAll = λ b h r d. let z : _≡_ {A = ℕ} 0 1 = cc (handed-one h d b, r (config b) fresh (callOn key alone) refl) in omega arith;
+      storesNothing = λ b h r d.
           let s : _≡_ {A = ℕ} 7 0 =
-          sym (ap (λ l. getD l 0 0) (rw (r (config true) fresh (callOn key (sent 5 [] (7 ∷ [])))) at (shown-one h d)))
-          ∙ shown-zero (h (config true) fresh (callOn key (sent 5 [] (7 ∷ []))) .answer) (7 ∷ []) 512 (handed-one h d) in
+          sym (ap (λ l. getD l 0 0) (rw (r (config b) fresh (callOn key alone) refl) at (shown-one h d b)))
+          ∙ shown-zero (h (config b) fresh (callOn key alone) .answer) (7 ∷ []) 512 (handed-one h d b) in
           omega arith;
-      handsAtZero = λ h r d. let z : _≡_ {A = ℕ} 0 1 = cc (continued h d, r (config true) fresh key firstBlock true 0 (can-be-given .two true .push .limits) first-reads) in omega arith;
+      handsAtZero = λ b h r d.
+          let z : _≡_ {A = ℕ} 0 1 = cc (continued h d b, r (config b) fresh key firstBlock true 0 refl (given-two b .push .limits) first-reads) in
+          omega arith;
     }
 
 pub exist : Exist
 exist =
     record {
-      refuses = λ c w q. refl;
-      passes = λ c w q. refl;
-      forgets = λ c w q. refl;
-      nods = λ c w k s more x l e. rw e;
+      refuses = λ b c w q e. refl;
+      passes = λ b c w q e. refl;
+      forgets = λ b c w q e. refl;
+      nods = λ b c w k s more x f l e. rw e;
     }

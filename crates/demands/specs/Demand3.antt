@@ -48,6 +48,11 @@ abbrev pub run : Handler → Config → World → List Call → List Seen
 run h c w [] = []
 run h c w (q ∷ calls) = seen q (h c w q) ∷ run h c (h c w q .world) calls
 
+-- The table and memories that these calls leave.
+abbrev pub after : Handler → Config → World → List Call → World
+after h c w [] = w
+after h c w (q ∷ calls) = after h c (h c w q .world) calls
+
 -- The calls on key k, in order, and what was seen of them.
 abbrev pub callsOn : List ℕ → List Call → List Call
 callsOn k [] = []
@@ -98,9 +103,13 @@ abbrev pub Rising : ℕ → List Call → Type 0
 Rising t [] = Unit {0}
 Rising t (q ∷ calls) = (t ≤ q .time) × Rising (q .time) calls
 
+-- Something holds of every call.
+abbrev pub All : (Call → Type 0) → List Call → Type 0
+All P [] = Unit {0}
+All P (q ∷ calls) = P q × All P calls
+
 abbrev pub AllBytes : List Call → Type 0
-AllBytes [] = Unit {0}
-AllBytes (q ∷ calls) = WhatBytes (q .what) × AllBytes calls
+AllBytes = All (λ q. WhatBytes (q .what))
 
 -- ---- The key's entry, when its first block comes at this time
 
@@ -124,16 +133,8 @@ NothingInPlain c w time k =
 
 -- ---- What is given
 
--- The run is block `first` and then the calls `later`: the rest of the client's blocks, and calls for other keys "between them" (or after the
--- last). Those are any requests and responses at all, with any numbers and bytes, also such as are refused or start other uploads.
-pub record Push (c : Config) (w : World) (k : List ℕ) (x : ℕ) (first : Sent) (rest : List Sent) (later : List Call) : Type 0 where
-  -- Document 01: "the first table and the key's own calls keep to this document's limits": no refusal 1 for the first block, so that the
-  -- configuration, both memories, the key and the table are within the limits. (The later blocks have the same key. That their lengths are
-  -- within the limits is not assumed: it follows from `room` and `full`, since T is at most 65,535.)
-  pub limits : withinLimits c w (callOn k first) ≡ true
-  -- Granted by what a table and bytes are: a table has sixteen entries, and an option's bytes are below 256.
-  pub sixteen : length (w .table .entries) ≡ 16
-  pub bytes : AllBytes (callOn k first ∷ later)
+-- The client's blocks: `first` and then `rest`, each of 2 to the power x + 4 bytes.
+pub record Blocks (c : Config) (x : ℕ) (first : Sent) (rest : List Sent) : Type 0 where
   -- "Its client sends blocks 0 to n-1 in order, n from 1 to 4096", where n is the length of first ∷ rest;
   -- "all .. marked "more" but the last, which is .. unmarked": what the Block1 option of each reads as.
   pub count : length (first ∷ rest) ≤ 4096
@@ -148,10 +149,20 @@ pub record Push (c : Config) (w : World) (k : List ℕ) (x : ℕ) (first : Sent)
   pub room : Each (λ j more r. r .bare + 12 + sizeOf x ≤ c .limit) 0 first rest
   -- "The body fits its piece".
   pub fits : length (joined first rest) ≤ c .upload
-  -- "The clock never goes back": the first block is not before the recorded clock, nor any call before the one that went ahead of it.
-  pub clock : Rising (w .table .clock) (callOn k first ∷ later)
   -- "Each call on the key comes sooner than one lifetime after the last". (The first finds a live entry, or takes a free one: `entry`.)
   pub prompt : Prompt (c .lifetime) (first .time) rest
+
+-- The run is block `first` and then the calls `later`: the rest of the client's blocks, and calls for other keys "between them" (or after the
+-- last). Those are any requests and responses at all, with any numbers and bytes, also such as are refused or start other uploads.
+pub record Push (c : Config) (w : World) (k : List ℕ) (x : ℕ) (first : Sent) (rest : List Sent) (later : List Call) : Type 0 where
+  -- Document 01: "the first table and the key's own calls keep to this document's limits": no refusal 1 for the first block, so that the
+  -- configuration, both memories, the key and the table are within the limits. (The later blocks have the same key. That their lengths are
+  -- within the limits is not assumed: it follows from `room` and `full`, since T is at most 65,535.)
+  pub limits : withinLimits c w (callOn k first) ≡ true
+  -- Granted by what a table and bytes are: a table has sixteen entries, and an option's bytes are below 256.
+  pub sixteen : length (w .table .entries) ≡ 16
+  pub bytes : AllBytes (callOn k first ∷ later)
+  pub blocks : Blocks c x first rest
   -- "With any calls for other keys between them and none other for this one".
   pub own : callsOn k later ≡ map (callOn k) rest
 
@@ -162,6 +173,8 @@ pub record Granted (c : Config) (w : World) (k : List ℕ) (x : ℕ) (first : Se
   -- .. and, in plain mode, nothing assembled."
   pub nothing : NothingInPlain c w (first .time) k
   pub push : Push c w k x first rest later
+  -- "The clock never goes back": the first block is not before the recorded clock, nor any call before the one that went ahead of it.
+  pub clock : Rising (w .table .clock) (callOn k first ∷ later)
 
 -- ---- What is promised
 

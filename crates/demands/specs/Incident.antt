@@ -21,7 +21,7 @@ use Rattle.request_step.specs.Step.{stepRequest}
 use Rattle.keys.specs.Keys.{stored}
 use Rattle.entries.specs.Entries.{inUse, free}
 use Rattle.block_handler.specs.Call.{World, Call, call}
-use Rattle.demands.specs.Demand3.{Handler, run, seenOn, Sent, callOn, block, joined, HasLive, Push, HandsOn}
+use Rattle.demands.specs.Demand3.{Handler, run, seenOn, Sent, callOn, block, joined, Rising, HasLive, Push, HandsOn}
 
 -- ---- Plain mode
 
@@ -86,6 +86,7 @@ pub record Story : Type 0 where
   -- It is a push as demand 3 has it, on a live entry with bytes assembled: what `StartsAfresh` below asks can be given.
   pub live : HasLive (shop true) cancelled 6 lane
   pub push : Push (shop true) cancelled lane 0 newFirst (newLast ∷ []) (callOn lane newLast ∷ [])
+  pub clock : Rising (cancelled .table .clock) newList
 
 -- ---- Strict mode
 
@@ -93,5 +94,5 @@ pub record Story : Type 0 where
 unfoldable pub StartsAfresh : Handler → Type 0
 StartsAfresh h =
     (c : Config) (w : World) (k : List ℕ) (x : ℕ) (first : Sent) (rest : List Sent) (later : List Call)
-    → c .strict ≡ true → HasLive c w (first .time) k → Push c w k x first rest later
+    → c .strict ≡ true → HasLive c w (first .time) k → Push c w k x first rest later → Rising (w .table .clock) (callOn k first ∷ later)
     → HandsOn (joined first rest) (seenOn k (run h c w (callOn k first ∷ later)))

@@ -1,4 +1,5 @@
--- Demand 3 is no empty promise: what it asks for can be given, in both modes, and the four sham handlers of document 01 break it.
+-- Demand 3 is no empty promise: what it asks for can be given, in both modes, and the four sham handlers of document 01 break it, each in either mode: a handler that is a
+-- sham in plain mode alone, and all that it should be in strict mode, breaks it too; and the other way round.
 use Prim.Native.Nat.{ℕ}
 use mathlib.Core.Bool.{Bool, false, cond, true}
 use mathlib.Core.Path.{_≡_}
@@ -14,10 +15,13 @@ use Rattle.block_state.specs.declared.Answer.{Answer}
 use Rattle.block_state.specs.declared.Answer.the-variants.{Continue, Handed, Pass, Refused}
 use Rattle.block_state.specs.Message.{What, request, response}
 use Rattle.block_state.specs.Answers.{Kind, said, continue, handed, pass, first, refusal}
+use Rattle.block_state.specs.State.{nothing}
 use Rattle.block_state.specs.Step.{bytesFrom}
+use Rattle.keys.specs.Keys.{stored}
+use Rattle.entries.specs.Entries.{inUse, free}
 use Rattle.block_table.specs.Table.{freshTable}
 use Rattle.block_handler.specs.Call.{World, Call, done, call, withinLimits}
-use Rattle.demands.specs.Demand3.{Handler, Seen, run, Sent, callOn, block, Granted, Demand3}
+use Rattle.demands.specs.Demand3.{Handler, Seen, run, Sent, callOn, block, HasLive, Granted, Demand3}
 
 -- ---- What is given can be given
 
@@ -64,6 +68,27 @@ kinds l = map (λ s. said (s .answer) .kind) l
 abbrev pub numbers : List Seen → List ℕ
 numbers l = map (λ s. said (s .answer) .number) l
 
+-- Three blocks of 1,024 bytes, the last shorter (options 0x0E, 0x1E and 0x26), on a live entry.
+abbrev pub wide : Bool → Config
+wide strict = record { strict = strict; limit = 1152; lifetime = 120000; upload = 3072; response = 16 }
+
+abbrev pub used : World
+used =
+    record {
+      table = record { clock = 5; entries = inUse (stored key) 5 nothing ∷ replicate 15 free };
+      upload = replicate 49152 0;
+      response = replicate 256 0;
+    }
+
+abbrev pub wideFirst : Sent
+wideFirst = sent 6 (0x0E ∷ []) (replicate 1024 65)
+
+abbrev pub wideSecond : Sent
+wideSecond = sent 7 (0x1E ∷ []) (replicate 1024 66)
+
+abbrev pub wideLast : Sent
+wideLast = sent 8 (0x26 ∷ []) (67 ∷ 68 ∷ [])
+
 pub record CanBeGiven : Type 0 where
   -- One block alone, and two blocks with those calls between them, in either mode.
   pub one : (strict : Bool) → Granted (config strict) fresh key 0 (sent 5 [] (7 ∷ [])) [] []
@@ -73,31 +98,34 @@ pub record CanBeGiven : Type 0 where
       → kinds (run call (config strict) fresh (callOn key firstBlock ∷ later)) ≡ continue ∷ continue ∷ refusal ∷ first ∷ refusal ∷ handed ∷ []
   pub refusals : (strict : Bool)
       → numbers (run call (config strict) fresh (callOn key firstBlock ∷ later)) ≡ 0 ∷ 0 ∷ 1 ∷ 0 ∷ cond strict 9 7 ∷ 0 ∷ []
+  -- Three blocks on a live entry.
+  pub live : (strict : Bool) → HasLive (wide strict) used 6 key
+  pub three : (strict : Bool) → Granted (wide strict) used key 6 wideFirst (wideSecond ∷ wideLast ∷ []) (callOn key wideSecond ∷ callOn key wideLast ∷ [])
 
--- ---- The shams: any handler of these four kinds breaks demand 3
+-- ---- The shams: any handler of these four kinds, in the mode that `strict` says, breaks demand 3
 
 -- "One that refuses all (3 excludes it by Continue and Handed)."
-abbrev pub RefusesAll : Handler → Type 0
-RefusesAll h = (c : Config) (w : World) (q : Call) → said (h c w q .answer) .kind ≡ refusal
+abbrev pub RefusesAll : Bool → Handler → Type 0
+RefusesAll strict h = (c : Config) (w : World) (q : Call) → c .strict ≡ strict → said (h c w q .answer) .kind ≡ refusal
 
 -- "One that always says Pass (3 again)."
-abbrev pub PassesAll : Handler → Type 0
-PassesAll h = (c : Config) (w : World) (q : Call) → said (h c w q .answer) .kind ≡ pass
+abbrev pub PassesAll : Bool → Handler → Type 0
+PassesAll strict h = (c : Config) (w : World) (q : Call) → c .strict ≡ strict → said (h c w q .answer) .kind ≡ pass
 
 -- "One that answers Continue and stores nothing (3, by the joined bytes)": whatever it answers, it leaves the upload memory as it was.
-abbrev pub StoresNothing : Handler → Type 0
-StoresNothing h = (c : Config) (w : World) (q : Call) → h c w q .world .upload ≡ w .upload
+abbrev pub StoresNothing : Bool → Handler → Type 0
+StoresNothing strict h = (c : Config) (w : World) (q : Call) → c .strict ≡ strict → h c w q .world .upload ≡ w .upload
 
 -- "One that hands on at block 0 and only nods afterwards (3, since blocks before the last must get Continue)": within the limits, and
 -- whatever it does afterwards.
-abbrev pub HandsAtZero : Handler → Type 0
-HandsAtZero h =
-    (c : Config) (w : World) (k : List ℕ) (s : Sent) (more : Bool) (x : ℕ) → withinLimits c w (callOn k s) ≡ true
+abbrev pub HandsAtZero : Bool → Handler → Type 0
+HandsAtZero strict h =
+    (c : Config) (w : World) (k : List ℕ) (s : Sent) (more : Bool) (x : ℕ) → c .strict ≡ strict → withinLimits c w (callOn k s) ≡ true
     → requestBlock (s .message .block1) ≡ Given (block 0 more x)
     → said (h c w (callOn k s) .answer) .kind ≡ handed
 
-abbrev pub Broken : (Handler → Type 0) → Type 0
-Broken Sham = (h : Handler) → Sham h → Demand3 h → ⊥
+abbrev pub Broken : (Bool → Handler → Type 0) → Type 0
+Broken Sham = (strict : Bool) (h : Handler) → Sham strict h → Demand3 h → ⊥
 
 pub record Excluded : Type 0 where
   pub refusesAll : Broken RefusesAll
@@ -128,7 +156,7 @@ abbrev pub nodder : Handler
 nodder c w q = done (call c w q .world) (nod (block1Of (q .what)))
 
 pub record Exist : Type 0 where
-  pub refuses : RefusesAll refuser
-  pub passes : PassesAll passer
-  pub forgets : StoresNothing forgetter
-  pub nods : HandsAtZero nodder
+  pub refuses : (strict : Bool) → RefusesAll strict refuser
+  pub passes : (strict : Bool) → PassesAll strict passer
+  pub forgets : (strict : Bool) → StoresNothing strict forgetter
+  pub nods : (strict : Bool) → HandsAtZero strict nodder

@@ -1,0 +1,247 @@
+-- EVERY PAIRING OF MESSAGE SIZE AND BLOCK SIZE. Assumes nothing.
+use Prim.Native.Nat.{ℕ, zero, suc, _+_, _-_, _*_, _/_, _^_, _≤_, _<_, min}
+use mathlib.Core.Bool.{Bool, true, false}
+use mathlib.Core.Path.{_≡_, refl, sym, _∙_, ap}
+use mathlib.Core.Logic.{_⊎_, inl, inr, ⊎-elim}
+use native.Mathlib.Nat.{mul-div-cancel, eq-or-lt-of-le, lt-of-not-le}
+use native.Mathlib.Omega.{arith}
+use lib.Dec.{ltb, leb, eqb}
+use lib.Pow.{pow-add, pow-mono}
+use borrow.Author.Tests.{ltb-true, ltb-false, leb-true, leb-false, le-leb, lt-leb, eqb-true, lt-ltb, le-ltb, ne-eqb}
+use Rattle.pieces.proofs.Tests.{by-cases, clash-of}
+use Rattle.block_value.specs.Value.{largestPower, exponentOf, made, sizeOf, blockSize, blockStart}
+use Rattle.block_value.specs.declared.BlockValue.{BlockValue}
+use Rattle.block_value.specs.declared.Made.the-variants as made-variants
+use Rattle.block_value.proofs.Laws.{size-is, size-least, size-most, exponent-size, made-zero, made-large, made-far, made-well}
+use Rattle.negotiation.specs.Negotiation.{negotiated, within, replyOf}
+use Rattle.negotiation.specs.declared.MaybeBlock.{MaybeBlock}
+use Rattle.negotiation.specs.declared.MaybeBlock.the-variants.{Absent, Given}
+use Rattle.negotiation.specs.declared.Negotiated.{Negotiated}
+use Rattle.negotiation.specs.declared.Negotiated.the-variants.{NoBlock, Block, Refused}
+use Rattle.negotiation.proofs.Laws.{reply-none, reply-made, no-room, with-room, absent-fits, absent-large, given-at}
+use Rattle.demands.specs.Pairing.{roomOf, granted, numFor, Needed, Unmakeable, Pairing}
+
+-- ---- the largest power of two
+
+power-below : (most size : ℕ) → 1 ≤ size → 2 ^ largestPower most size ≤ size
+unfolding largestPower
+power-below zero size h = omega arith
+power-below (suc most) size h =
+    by-cases (leb (2 ^ suc most) size) (λ y. rw y (leb-true (2 ^ suc most) size y)) (λ n. rw n (power-below most size h))
+
+power-above : (most size : ℕ) → size < 2 ^ suc most → size < 2 ^ suc (largestPower most size)
+unfolding largestPower
+power-above zero size h = h
+power-above (suc most) size h =
+    by-cases (leb (2 ^ suc most) size) (λ y. rw y h) (λ n. rw n (power-above most size (leb-false (2 ^ suc most) size n)))
+
+power-least : (k most size : ℕ) → k ≤ most → 2 ^ k ≤ size → k ≤ largestPower most size
+unfolding largestPower
+power-least k zero size h a = h
+power-least k (suc most) size h a =
+    by-cases (leb (2 ^ suc most) size) (λ y. rw y h)
+    (λ n.
+    let below : size < 2 ^ suc most = leb-false (2 ^ suc most) size n in
+    rw n (⊎-elim
+    (λ (e : k ≡ suc most). let z : 2 ^ suc most ≤ size = rw e at a in absurd (omega arith))
+    (λ (l : k < suc most). power-least k most size (omega arith) a)
+    (eq-or-lt-of-le h)))
+
+-- a number below 2 ^ k has its largest power below k
+power-under : (k most size : ℕ) → 1 ≤ size → size < 2 ^ k → largestPower most size < k
+power-under k most size h b =
+    lt-of-not-le (λ (l : k ≤ largestPower most size). let p : 2 ^ k ≤ 2 ^ largestPower most size = pow-mono {i = k} l in omega (arith, power-below most size h))
+
+-- the size of the block that a size g makes
+module _ (g : ℕ) (least : 1 ≤ g) where
+  large : 4096 ≤ g → 7 < exponentOf g
+  large h = omega (arith, power-least 12 63 g (omega arith) h)
+
+  module _ (most : g < 4096) where
+    exponent-7 : exponentOf g ≤ 7
+    exponent-7 = omega (arith, power-under 12 63 g least most)
+
+    size-small : g < 16 → sizeOf (exponentOf g) ≡ 16
+    size-small h =
+        let e : exponentOf g ≡ 0 = omega (arith, power-under 4 63 g least h) in
+        rw e (size-is 0 (omega arith))
+
+    size-large : 16 ≤ g → (sizeOf (exponentOf g) ≤ g) × (g < sizeOf (exponentOf g) + sizeOf (exponentOf g))
+    size-large h =
+        let e : exponentOf g + 4 ≡ largestPower 63 g = omega (arith, power-least 4 63 g (omega arith) h) in
+        let s : sizeOf (exponentOf g) ≡ 2 ^ largestPower 63 g = size-is (exponentOf g) exponent-7 ∙ ap (λ (n : ℕ). 2 ^ n) e in
+        let two : 2 ^ (largestPower 63 g + 1) ≡ 2 ^ largestPower 63 g * 2 = pow-add 2 (largestPower 63 g) 1 in
+        let next : suc (largestPower 63 g) ≡ largestPower 63 g + 1 = omega arith in
+        let above : g < 2 ^ (largestPower 63 g + 1) = rw next at (power-above 63 g (omega arith)) in
+        (omega (arith, power-below 63 g least), omega arith)
+
+-- ---- what comes out where a block is needed
+
+module _ (n : ℕ) (more : Bool) (g : ℕ) where
+  -- the make, by its cases
+  data Came : Negotiated → Type 0 where
+    refused : (g ≡ 0) ⊎ (4096 ≤ g) ⊎ (65535 < n) → Came (Refused 5)
+    block : 1 ≤ g → g < 4096 → n ≤ 65535 → Came (Block (record { num = n; more = more; «size_exponent» = exponentOf g }))
+
+  came : Came (replyOf (made n more g))
+  came =
+      by-cases (eqb g 0)
+      (λ y. let e : g ≡ 0 = eqb-true g 0 y in rw (made-zero n more g e) (refused (inl e)))
+      (λ z.
+      let nz : g ≡ 0 → ⊥ = λ e. zero-clash (eqb g 0) z e in
+      by-cases (leb 4096 g)
+      (λ y. let b : 4096 ≤ g = leb-true 4096 g y in rw (made-large n more g nz (large g (omega (arith, nz)) b)) (refused (inr (inl b))))
+      (λ o.
+      let b : g < 4096 = leb-false 4096 g o in
+      let e7 = exponent-7 g (omega (arith, nz)) b in
+      by-cases (ltb 65535 n)
+      (λ y. let f : 65535 < n = ltb-true 65535 n y in rw (made-far n more g nz e7 f) (refused (inr (inr f))))
+      (λ u. let f : n ≤ 65535 = ltb-false 65535 n u in rw (made-well n more g nz (exponentOf g) refl e7 f) (block (omega (arith, nz)) b f))))
+    where
+      zero-clash : (t : Bool) → eqb g 0 ≡ false → g ≡ 0 → ⊥
+      zero-clash t z e = let w : eqb 0 0 ≡ false = rw e at z in absurd (clash-of true refl w)
+
+module _ (b : MaybeBlock) (bare p t : ℕ) where
+  abbrev m : ℕ
+  m = roomOf bare t
+
+  abbrev g : ℕ
+  g = granted b m
+
+  -- the negotiation, by its cases
+  data Out : Negotiated → Type 0 where
+    four : t < bare + 12 → Out (Refused 4)
+    none : bare + 12 ≤ t → (Needed b p m → ⊥) → Out NoBlock
+    answered : bare + 12 ≤ t → Needed b p m → (more : Bool) (y : Negotiated) → Came (numFor b g) more g y → Out y
+
+came-given : (b : BlockValue) (p m : ℕ) → (more : Bool) × Came (blockStart b / min (blockSize b) m) more (min (blockSize b) m) (within (Given b) p m)
+came-given b p m =
+    let g : ℕ = min (blockSize b) m in
+    by-cases (eqb g 0)
+    (λ y. let e : g ≡ 0 = eqb-true g 0 y in (true, rw (given-at (Given b) p m b refl, reply-none (blockStart b) g p e) (refused (inl e))))
+    (λ z.
+    let nz : g ≡ 0 → ⊥ = λ e. zero-not z e in
+    (ltb (blockStart b + g) p, rw (given-at (Given b) p m b refl, reply-made (blockStart b) g p nz) (came (blockStart b / g) (ltb (blockStart b + g) p) g)))
+  where
+    zero-not : {g : ℕ} → eqb g 0 ≡ false → g ≡ 0 → ⊥
+    zero-not z e = let w : eqb 0 0 ≡ false = rw e at z in absurd (clash-of true refl w)
+
+out : (b : MaybeBlock) (bare p t : ℕ) → Out b bare p t (negotiated b bare p t)
+out b bare p t =
+    by-cases (ltb t (bare + 12))
+    (λ y. let h = ltb-true t (bare + 12) y in rw (no-room b bare p t h) (four h))
+    (λ n. let h = ltb-false t (bare + 12) n in rw (with-room b bare p t (roomOf bare t) h refl) (rest b h))
+  where
+    rest : (b : MaybeBlock) → bare + 12 ≤ t → Out b bare p t (within b p (roomOf bare t))
+    rest Absent h =
+        by-cases (ltb p (roomOf bare t))
+        (λ y. let l = ltb-true p (roomOf bare t) y in rw (absent-fits Absent p (roomOf bare t) refl l) (none h (λ need. omega arith)))
+        (λ n.
+        let l = ltb-false p (roomOf bare t) n in
+        rw (absent-large Absent p (roomOf bare t) refl l) (answered h l true _ (came 0 true (roomOf bare t))))
+    rest (Given b) h = let c = came-given b p (roomOf bare t) in answered h tt (c .0) _ (c .1)
+
+-- ---- the laws
+
+five-is-not-four : Refused 5 ≡ Refused 4 → ⊥
+five-is-not-four e = let z : _≡_ {A = ℕ} 5 4 = cc in omega arith
+
+block-is-not : {A : Type 0} (r : BlockValue) (n : ℕ) → Block r ≡ Refused n → A
+block-is-not r n e = let z : _≡_ {A = ℕ} 0 1 = cc in absurd (omega arith)
+
+none-is-not : {A : Type 0} (n : ℕ) → NoBlock ≡ Refused n → A
+none-is-not n e = let z : _≡_ {A = ℕ} 0 1 = cc in absurd (omega arith)
+
+none-is-no-block : {A : Type 0} (r : BlockValue) → NoBlock ≡ Block r → A
+none-is-no-block r e = let z : _≡_ {A = ℕ} 0 1 = cc in absurd (omega arith)
+
+refused-is-no-block : {A : Type 0} (r : BlockValue) (n : ℕ) → Refused n ≡ Block r → A
+refused-is-no-block r n e = let z : _≡_ {A = ℕ} 0 1 = cc in absurd (omega arith)
+
+module _ (b : MaybeBlock) (bare p t : ℕ) where
+  abbrev room : ℕ
+  room = roomOf bare t
+
+  abbrev gr : ℕ
+  gr = granted b room
+
+  four-only : (y : Negotiated) → Out b bare p t y → y ≡ Refused 4 → t < bare + 12
+  four-only y (four h) e = h
+  four-only y (none h n) e = none-is-not 4 e
+  four-only y (answered h n more _ (refused u)) e = absurd (five-is-not-four e)
+  four-only y (answered h n more _ (block l m o)) e = block-is-not _ 4 e
+
+  five-when : bare + 12 ≤ t → Needed b p room → Unmakeable b room → (y : Negotiated) → Out b bare p t y → y ≡ Refused 5
+  five-when h need u y (four l) = absurd (omega arith)
+  five-when h need u y (none l n) = absurd (n need)
+  five-when h need u y (answered l n more _ (refused v)) = refl
+  five-when h need u y (answered l n more _ (block a c d)) = absurd (⊎-elim (λ (e : gr ≡ 0). omega arith) (⊎-elim (λ (e : 4096 ≤ gr). omega arith) (λ (e : 65535 < numFor b gr). omega arith)) u)
+
+  five-only : (y : Negotiated) → Out b bare p t y → y ≡ Refused 5 → Unmakeable b room
+  five-only y (four h) e = absurd (five-is-not-four (sym e))
+  five-only y (none h n) e = none-is-not 5 e
+  five-only y (answered h n more _ (refused u)) e = u
+  five-only y (answered h n more _ (block l m o)) e = block-is-not _ 5 e
+
+  made-when : bare + 12 ≤ t → Needed b p room → (Unmakeable b room → ⊥) → (y : Negotiated) → Out b bare p t y → (r : BlockValue) × (y ≡ Block r)
+  made-when h need u y (four l) = absurd (omega arith)
+  made-when h need u y (none l n) = absurd (n need)
+  made-when h need u y (answered l n more _ (refused v)) = absurd (u v)
+  made-when h need u y (answered l n more _ (block a c d)) = (_, refl)
+
+  -- a block that comes out
+  record Comes (r : BlockValue) : Type 0 where
+    least : 1 ≤ gr
+    most : gr < 4096
+    num : r .num ≡ numFor b gr
+    exponent : r .«size_exponent» ≡ exponentOf gr
+    room-left : bare + 12 ≤ t
+
+  comes : (r : BlockValue) (y : Negotiated) → Out b bare p t y → y ≡ Block r → Comes r
+  comes r y (four l) e = refused-is-no-block r 4 e
+  comes r y (none l n) e = none-is-no-block r e
+  comes r y (answered l n more _ (refused v)) e = refused-is-no-block r 5 e
+  comes r y (answered l n more _ (block a c d)) e =
+      let num : r .num ≡ numFor b gr = cc in
+      let exponent : r .«size_exponent» ≡ exponentOf gr = cc in
+      record { least = a; most = c; num = num; exponent = exponent; room-left = l }
+
+granted-room : (b : MaybeBlock) (m : ℕ) → (granted b m ≤ m) × (16 ≤ m → 16 ≤ granted b m) × (m < 16 → granted b m ≡ m)
+granted-room Absent m = (omega arith, λ h. h, λ h. refl)
+granted-room (Given b) m = (omega arith, λ h. omega (arith, size-least (b .«size_exponent»)), λ h. omega (arith, size-least (b .«size_exponent»)))
+
+pub pairing : Pairing
+pairing =
+    record {
+      four = λ b bare p t h. no-room b bare p t h;
+      fourOnly = λ b bare p t e. four-only b bare p t _ (out b bare p t) e;
+      noBlock = λ bare p t h l. with-room Absent bare p t (roomOf bare t) h refl ∙ absent-fits Absent p (roomOf bare t) refl l;
+      five = λ b bare p t h need u. five-when b bare p t h need u _ (out b bare p t);
+      fiveOnly = λ b bare p t e. five-only b bare p t _ (out b bare p t) e;
+      made = λ b bare p t h need u. made-when b bare p t h need u _ (out b bare p t);
+      num = λ b bare p t r e. comes b bare p t r _ (out b bare p t) e .num;
+      size = λ b bare p t r e h.
+          let k = comes b bare p t r _ (out b bare p t) e in
+          let s = size-large (granted b (roomOf bare t)) (k .least) (k .most) (granted-room b (roomOf bare t) .1 h) in
+          (rw (k .exponent) (s .0), rw (k .exponent) (s .1), size-most (r .«size_exponent»));
+      fits = λ b bare p t r e h.
+          let k = comes b bare p t r _ (out b bare p t) e in
+          let s = size-large (granted b (roomOf bare t)) (k .least) (k .most) (granted-room b (roomOf bare t) .1 h) in
+          let z : blockSize r ≤ granted b (roomOf bare t) = rw (k .exponent) (s .0) in
+          omega (arith, granted-room b (roomOf bare t) .0, k .room-left);
+      small = λ b bare p t r e h.
+          let k = comes b bare p t r _ (out b bare p t) e in
+          let q : granted b (roomOf bare t) ≡ roomOf bare t = granted-room b (roomOf bare t) .2 h in
+          let z : blockSize r ≡ 16 = rw (k .exponent) (size-small (granted b (roomOf bare t)) (k .least) (k .most) (omega arith)) in
+          (z, omega (arith, k .room-left));
+      asked = λ b bare p t h hn hx.
+          let s : ℕ = blockSize b in
+          let pos : 0 < s = omega (arith, size-least (b .«size_exponent»)) in
+          let nz : s ≡ 0 → ⊥ = λ e. omega arith in
+          let full : min s (roomOf bare t) ≡ s = omega arith in
+          with-room (Given b) bare p t (roomOf bare t) (omega arith) refl
+          ∙ given-at (Given b) p (roomOf bare t) b refl
+          ∙ rw full (reply-made (blockStart b) s p nz
+          ∙ rw (mul-div-cancel (b .num) pos)
+          (ap replyOf (made-well (b .num) _ s nz (b .«size_exponent») (sym (exponent-size (b .«size_exponent») hx)) hx hn)));
+    }

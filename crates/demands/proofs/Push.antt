@@ -1,0 +1,308 @@
+-- A push, block by block: where it stands once its last block was taken, with any calls for other keys between. Assumes nothing.
+use Prim.Native.Nat.{ℕ, suc, _+_, _-_, _*_, _≤_, _<_}
+use mathlib.Core.Bool.{Bool, true, false}
+use mathlib.Core.Path.{_≡_, refl, sym, _∙_, ap, subst}
+use mathlib.Core.Logic.{_⊎_, inl, inr}
+use mathlib.Core.List.{List, [], _∷_, _++_, map, append-assoc, append-nil}
+use native.Mathlib.Omega.{arith}
+use lib.ListN.{length, take, length-append}
+use lib.Seq.{take-take}
+use lib.Dec.{leb, ltb}
+use borrow.Author.Tests.{ltb-true, leb-true, le-leb}
+use Rattle.pieces.specs.Memory.{part, pieceOf}
+use Rattle.pieces.proofs.Memory.{within-there, piece-order}
+use Rattle.pieces.proofs.Tests.{ands, and-both, by-cases}
+use Rattle.block_value.specs.Value.{sizeOf}
+use Rattle.block_value.proofs.Laws.{size-most}
+use Rattle.negotiation.specs.Negotiation.{requestBlock}
+use Rattle.negotiation.specs.declared.MaybeBlock.the-variants.{Absent, Given}
+use Rattle.block_state.specs.declared.Config.{Config}
+use Rattle.block_state.specs.Message.{Request, request, WhatBytes}
+use Rattle.block_state.specs.Answers.{said, continue}
+use Rattle.block_state.specs.State.{assembly}
+use Rattle.block_state.specs.Step.{bytesFrom}
+use Rattle.request_step.specs.Step.{stepRequest}
+use Rattle.keys.specs.Lists.{find}
+use Rattle.keys.specs.Keys.{keyOk}
+use Rattle.keys.proofs.Lists.{find-at-most}
+use Rattle.keys.proofs.Keys.{same-refl}
+use Rattle.entries.specs.declared.Entry.{Entry}
+use Rattle.entries.specs.Entries.{free, holds, unused}
+use Rattle.entries.proofs.Entries.{holds-new, swept-dead, swept-holds}
+use Rattle.block_table.specs.Table.{at}
+use Rattle.block_table.proofs.Row.{at-sweep}
+use Rattle.block_table.proofs.TableFits.{row, row-length, row-unique, row-live}
+use Rattle.places.specs.Places.{place, opened}
+use Rattle.places.proofs.Places.{opened-own, opened-new, opened-key, place-holds, place-of}
+use Rattle.judge.specs.Limits.{configOk}
+use Rattle.answers.specs.Parts.{partOf}
+use Rattle.block_handler.specs.Call.{World, Call, whatOk, call}
+use Rattle.block_handler.proofs.Frame.{WorldFits, Took, request-took, call-fits}
+use Rattle.demands.specs.Demand3.{Seen, seen, run, after, callsOn, seenOn, Sent, callOn, block, Each, Fills, joined, Prompt, AllBytes, entryAt, HasLive, HasFree, NothingInPlain, Blocks, HandsOn}
+use Rattle.demands.specs.Clocks.{OwnRising}
+use Rattle.demands.specs.Touch.{HandsTo}
+use Rattle.demands.specs.Twice.{lastOf}
+use Rattle.demands.proofs.OwnStep.{Meets, OneBlock, fills-most, held-after, own-more, own-last, meets-first, meets-next}
+use Rattle.demands.proofs.Runs.{all-front, all-behind, after-cut, seen-cut, none-seen, Cut, cut, rising-cut, after-clock}
+use Rattle.demands.proofs.Held.{Held, held-place, held-opened, held-others}
+
+-- ---- an entry's place and its piece
+
+pub limit-most : (c : Config) → configOk c ≡ true → c .limit ≤ 65535
+unfolding configOk
+limit-most c h = leb-true (c .limit) 65535 (search ands)
+
+-- a row with an entry that is not in use has a place for every key
+place-free : (k : List ℕ) (l : List Entry) (i : ℕ) → length l ≡ 16 → i < 16 → at l i .used ≡ false → place k l < 16
+unfolding place
+place-free k l i long b h =
+    let m : find unused l ≤ i = find-at-most unused free l i (omega arith) (rw h) in
+    by-cases (ltb (find (holds k) l) 16) (λ y. rw y (ltb-true (find (holds k) l) 16 y)) (λ n. rw n (omega arith))
+
+-- the first bytes of a piece, as an answer names them
+pub shown-part : (m : List ℕ) (u i n : ℕ) → i * u + u ≤ length m → n ≤ u → partOf m (bytesFrom (i * u) n) ≡ take n (pieceOf u i m)
+unfolding pieceOf part
+shown-part m u i n h k =
+    let e : i * u + n - i * u ≡ n = omega arith in
+    sym (rw e at (within-there m (i * u) (i * u + n) (omega arith) (omega arith))) ∙ sym (take-take n u _ k)
+
+-- ---- block j has come: it has a place, and the entry there meets it
+
+pub record Ready (c : Config) (w : World) (k : List ℕ) (x j time : ℕ) (bytes : List ℕ) : Type 0 where
+  pub fits : WorldFits c w
+  pub later : w .table .clock ≤ time
+  pub placed : place k (row c (w .table) time) < 16
+  pub meets : Meets c (opened k (row c (w .table) time) .state .assembled) (pieceOf (c .upload) (place k (row c (w .table) time)) (w .upload)) x j bytes
+
+-- a later block: the entry meets it
+ready-next : (c : Config) (w : World) (k : List ℕ) (x i j last time : ℕ) (bytes : List ℕ) → Held c w k i last
+    → Meets c (entryAt w i .state .assembled) (pieceOf (c .upload) i (w .upload)) x j bytes → w .table .clock ≤ time → time < last + c .lifetime
+    → Ready c w k x j time bytes
+ready-next c w k x i j last time bytes g meets later soon =
+    let p = held-place c w k i last g time soon in
+    record { fits = g .fits; later = later; placed = rw p (g .slot); meets = rw (held-opened c w k i last g time soon, p) meets }
+
+-- the first: it has a place, and meets nothing assembled, or in strict mode starts afresh
+module _ (c : Config) (w : World) (k : List ℕ) (x time : ℕ) (f : WorldFits c w) (later : w .table .clock ≤ time) where
+  abbrev found : List Entry
+  found = row c (w .table) time
+
+  found-16 : length found ≡ 16
+  found-16 = row-length c (w .table) time (f .table) (f .sixteen)
+
+  pub place-first : HasLive c w time k ⊎ HasFree c w time → place k found < 16
+  place-first (inl o) =
+      let e : at found (o .0) ≡ entryAt w (o .0) = row-live c (w .table) time (f .table) (f .sixteen) (o .0) (o .3) in
+      rw (place-of k found found-16 (row-unique c (w .table) time (f .table) (f .sixteen)) (o .0) (o .1) (rw e (o .2))) (o .1)
+  place-first (inr o) =
+      let e : at found (o .0) ≡ free =
+      at-sweep (c .lifetime) time (w .table .entries) (o .0) ∙ swept-dead (c .lifetime) time (entryAt w (o .0)) (o .2) in
+      place-free k found (o .0) found-16 (o .1) (rw e)
+
+  none-first : NothingInPlain c w time k → place k found < 16 → c .strict ≡ false → opened k found .state .assembled .len ≡ 0
+  none-first nothing p plain =
+      let i : ℕ = place k found in
+      by-cases (at found i .used)
+      (λ u.
+      let h : holds k (at found i) ≡ true = place-holds k found found-16 u in
+      let s = swept-holds (c .lifetime) time k (entryAt w i) (rw (at-sweep (c .lifetime) time (w .table .entries) i) at h) in
+      rw (opened-own k found u, row-live c (w .table) time (f .table) (f .sixteen) i (s .0)) (nothing plain i p (s .1) (s .0)))
+      (λ n. rw (opened-new k found n))
+
+  pub ready-first : place k found < 16 → NothingInPlain c w time k → Ready c w k x 0 time []
+  ready-first p nothing = record { fits = f; later = later; placed = p; meets = meets-first c _ _ x (none-first nothing p) }
+
+-- ---- a block of the client's
+
+module _ (c : Config) (w : World) (k : List ℕ) (x j : ℕ) (m : Bool) (s : Sent) (bytes : List ℕ) (g : Ready c w k x j (s .time) bytes)
+    (named : keyOk k ≡ true) (hb : WhatBytes (request (s .message))) (b : OneBlock c x j m (s .message))
+    (fit : length (bytes ++ s .message .payload) ≤ c .upload) where
+  abbrev entries : List Entry
+  entries = row c (w .table) (s .time)
+
+  abbrev here : ℕ
+  here = place k entries
+
+  abbrev piece : List ℕ
+  piece = pieceOf (c .upload) here (w .upload)
+
+  abbrev joins : List ℕ
+  joins = bytes ++ s .message .payload
+
+  abbrev then : World
+  then = call c w (callOn k s) .world
+
+  message-ok : whatOk (request (s .message)) ≡ true
+  unfolding whatOk
+  message-ok =
+      and-both (leb (s .message .bare) 65535) (leb (length (s .message .payload)) 65535)
+      (le-leb (s .message .bare) 65535 (omega (arith, b .room, limit-most c (g .fits .config))))
+      (le-leb (length (s .message .payload)) 65535 (omega (arith, fills-most c 0 0 (opened k entries .state) piece (s .message) x j m b, size-most x)))
+
+  took : Took c (call c w (callOn k s)) here (s .time) (opened k entries .key)
+      (stepRequest c (here * c .upload) (here * c .response) (opened k entries .state) piece (s .message))
+  took = request-took c w (callOn k s) (g .fits) named (g .later) (g .placed) (s .message) refl hb message-ok
+
+  block-clock : then .table .clock ≡ s .time
+  block-clock = took .clock
+
+  block-held : Held c then k here (s .time)
+  block-held =
+      record {
+        fits = call-fits c w (callOn k s) hb (g .fits);
+        slot = g .placed;
+        held = rw (took .entry) (holds-new k k (opened k entries .key) (s .time) _ (opened-key k entries (row-length c (w .table) (s .time) (g .fits .table) (g .fits .sixteen))) ∙ same-refl k);
+        touched = rw (took .entry);
+      }
+
+  block-more : m ≡ true
+      → (said (call c w (callOn k s) .answer) .kind ≡ continue)
+      × Meets c (entryAt then here .state .assembled) (pieceOf (c .upload) here (then .upload)) x (suc j) joins
+  block-more more =
+      let t = rw (own-more c (here * c .upload) (here * c .response) (opened k entries .state) piece (s .message) x j m b bytes (g .meets) fit more) at took in
+      (rw (t .answer), rw (t .entry, t .piece) (meets-next c piece x j bytes (s .message .payload) (g .meets .count) (rw more at (b .full))))
+
+  block-last : m ≡ false → HandsTo joins call c w (callOn k s) × (entryAt then here .state .assembled ≡ assembly 0 0)
+  block-last last =
+      let t = rw (own-last c (here * c .upload) (here * c .response) (opened k entries .state) piece (s .message) x j m b bytes (g .meets) fit last) at took in
+      let f = call-fits c w (callOn k s) hb (g .fits) in
+      let in-upload : here * c .upload + c .upload ≤ length (then .upload) = omega (arith, f .upload, piece-order here 16 (c .upload) (g .placed)) in
+      let shown = shown-part (then .upload) (c .upload) here (length joins) in-upload fit ∙ ap (take (length joins)) (t .piece) ∙ held-after piece joins in
+      ((rw (t .answer), rw (t .answer) shown), rw (t .entry))
+
+-- ---- all of them
+
+-- The calls fall into `front`, which ends with the push's last block, and `behind`, where the key's own calls are `tail`. What is seen of the key's calls in `front`
+-- hands on these bytes; then the key's entry has nothing assembled, and its last call was at `last`.
+pub record Pushed (c : Config) (w : World) (k : List ℕ) (last n : ℕ) (bytes : List ℕ) (tail calls : List Call) : Type 0 where
+  pub front : List Call
+  pub behind : List Call
+  pub is : calls ≡ front ++ behind
+  pub hands : HandsOn bytes (seenOn k (run call c w front))
+  pub many : length (seenOn k (run call c w front)) ≡ n
+  pub slot : ℕ
+  pub settled : Held c (after call c w front) k slot last
+  pub empty : entryAt (after call c w front) slot .state .assembled ≡ assembly 0 0
+  pub clock : after call c w front .table .clock ≡ last
+  pub rising : OwnRising k last behind
+  pub own : callsOn k behind ≡ tail
+
+module _ (c : Config) (w : World) (k : List ℕ) (last n : ℕ) (bytes : List ℕ) (tail calls : List Call) where
+  -- other keys' calls before it
+  pub pass : (before : List Call) → callsOn k before ≡ [] → Pushed c (after call c w before) k last n bytes tail calls
+      → Pushed c w k last n bytes tail (before ++ calls)
+  pass before none p =
+      let there : after call c w (before ++ p .front) ≡ after call c (after call c w before) (p .front) = after-cut call c before (p .front) w in
+      let same : seenOn k (run call c w (before ++ p .front)) ≡ seenOn k (run call c (after call c w before) (p .front)) =
+      seen-cut call c k before (p .front) w ∙ ap (λ (l : List Seen). l ++ seenOn k (run call c (after call c w before) (p .front))) (none-seen call c k before w none) in
+      record {
+        front = before ++ p .front;
+        behind = p .behind;
+        is = ap (λ (l : List Call). before ++ l) (p .is) ∙ sym (append-assoc before (p .front) (p .behind));
+        hands = rw same (p .hands);
+        many = rw same (p .many);
+        slot = p .slot;
+        settled = rw there (p .settled);
+        empty = rw there (p .empty);
+        clock = rw there (p .clock);
+        rising = p .rising;
+        own = p .own;
+      }
+
+  -- a block of its own before it
+  one-more : (s : Sent) → said (call c w (callOn k s) .answer) .kind ≡ continue → Pushed c (call c w (callOn k s) .world) k last n bytes tail calls
+      → Pushed c w k last (suc n) bytes tail (callOn k s ∷ calls)
+  one-more s a p =
+      record {
+        front = callOn k s ∷ p .front;
+        behind = p .behind;
+        is = ap (λ (l : List Call). callOn k s ∷ l) (p .is);
+        hands = rw (same-refl k) (first (seenOn k (run call c (call c w (callOn k s) .world) (p .front))) (p .hands));
+        many = rw (same-refl k) (ap suc (p .many));
+        slot = p .slot;
+        settled = p .settled;
+        empty = p .empty;
+        clock = p .clock;
+        rising = p .rising;
+        own = p .own;
+      }
+    where
+      first : (l : List Seen) → HandsOn bytes l → HandsOn bytes (seen (callOn k s) (call c w (callOn k s)) ∷ l)
+      first [] h = absurd h
+      first (t ∷ l) h = (a, h)
+
+module _ (c : Config) (k : List ℕ) (x : ℕ) (named : keyOk k ≡ true) where
+  -- what is to be shown of a block with these behind it
+  abbrev pub From : List Sent → Type 0
+  From rest =
+      (w : World) (j : ℕ) (bytes : List ℕ) (s : Sent) (calls tail : List Call) → Ready c w k x j (s .time) bytes
+      → Each (OneBlock c x) j s rest → Prompt (c .lifetime) (s .time) rest → length (bytes ++ joined s rest) ≤ c .upload
+      → AllBytes (callOn k s ∷ calls) → OwnRising k (s .time) calls → callsOn k calls ≡ map (callOn k) rest ++ tail
+      → Pushed c w k (lastOf s rest .time) (suc (length rest)) (bytes ++ joined s rest) tail (callOn k s ∷ calls)
+
+  from-last : From []
+  from-last w j bytes s calls tail g b pr f ab rise own =
+      let l = block-last c w k x j false s bytes g named (ab .0) b f refl in
+      record {
+        front = callOn k s ∷ [];
+        behind = calls;
+        is = refl;
+        hands = rw (same-refl k) (l .0);
+        many = rw (same-refl k);
+        slot = here c w k x j false s bytes g named (ab .0) b f;
+        settled = block-held c w k x j false s bytes g named (ab .0) b f;
+        empty = l .1;
+        clock = block-clock c w k x j false s bytes g named (ab .0) b f;
+        rising = rise;
+        own = own;
+      }
+
+  from-more : (t : Sent) (rest : List Sent) → From rest → From (t ∷ rest)
+  from-more t rest on w j bytes s calls tail g b pr f ab rise own =
+      let p : List ℕ = s .message .payload in
+      let asc : bytes ++ p ++ joined t rest ≡ bytes ++ (p ++ joined t rest) = append-assoc bytes p (joined t rest) in
+      let long : length (bytes ++ p ++ joined t rest) ≡ length (bytes ++ p) + length (joined t rest) = length-append (bytes ++ p) (joined t rest) in
+      let f′ : length (bytes ++ p ++ joined t rest) ≤ c .upload = rw asc f in
+      let fit : length (bytes ++ p) ≤ c .upload = omega arith in
+      let i : ℕ = here c w k x j true s bytes g named (ab .0) (b .0) fit in
+      let v : World = call c w (callOn k s) .world in
+      let m = block-more c w k x j true s bytes g named (ab .0) (b .0) fit refl in
+      let z : Cut k calls (callOn k t) (map (callOn k) rest ++ tail) = cut k calls (callOn k t) (map (callOn k) rest ++ tail) own in
+      let r = rising-cut k (s .time) (z .before) (callOn k t) (z .behind) (same-refl k) (subst (OwnRising k (s .time)) (z .is) rise) in
+      let ab′ : AllBytes (z .before ++ (callOn k t ∷ z .behind)) = subst AllBytes (z .is) (ab .1) in
+      let v′ : World = after call c v (z .before) in
+      let u = held-others c k i (s .time) (t .time) (pr .0) (z .before) v (block-held c w k x j true s bytes g named (ab .0) (b .0) fit)
+      (all-front _ (z .before) (callOn k t ∷ z .behind) ab′) (r .1) (z .none) in
+      let clock : v .table .clock ≡ s .time = block-clock c w k x j true s bytes g named (ab .0) (b .0) fit in
+      let ready : Ready c v′ k x (suc j) (t .time) (bytes ++ p) =
+      ready-next c v′ k x i (suc j) (s .time) (t .time) (bytes ++ p) (u .1) (rw (u .0 .entry, u .0 .upload) (m .1))
+      (after-clock c (t .time) (z .before) v (omega (arith, r .0, clock)) (r .1)) (pr .0) in
+      let n = on v′ (suc j) (bytes ++ p) t (z .behind) tail ready (b .1) (pr .1) f′ (all-behind _ (z .before) (callOn k t ∷ z .behind) ab′) (r .2) (z .left) in
+      let n′ = pass c v k (lastOf t rest .time) (suc (length rest)) (bytes ++ p ++ joined t rest) tail (callOn k t ∷ z .behind) (z .before) (z .none) n in
+      one-more c w k (lastOf t rest .time) (suc (length rest)) (bytes ++ (p ++ joined t rest)) tail calls s (m .0)
+      (subst (λ (l : List Call). Pushed c v k (lastOf t rest .time) (suc (length rest)) (bytes ++ (p ++ joined t rest)) tail l) (sym (z .is)) (rw asc at n′))
+
+  pub push-from : (rest : List Sent) → From rest
+  push-from [] = from-last
+  push-from (t ∷ rest) = from-more t rest (push-from rest)
+
+-- ---- what is asked of the blocks, block by block
+
+pub each-block : (c : Config) (x : ℕ) (first : Sent) (rest : List Sent) → Blocks c x first rest → Each (OneBlock c x) 0 first rest
+each-block c x first rest b = from 0 first rest (omega (arith, b .count)) (b .numbered) (b .full) (b .alone) (b .room)
+  where
+    from : (j : ℕ) (s : Sent) (rest : List Sent) → j + length rest ≤ 4095 → Each (λ j more r. requestBlock (r .block1) ≡ Given (block j more x)) j s rest
+        → Each (λ j more r. Fills more (length (r .payload)) (sizeOf x)) j s rest → Each (λ j more r. requestBlock (r .block2) ≡ Absent) j s rest
+        → Each (λ j more r. r .bare + 12 + sizeOf x ≤ c .limit) j s rest → Each (OneBlock c x) j s rest
+    from j s [] h n f a r = record { size = b .size; count = omega arith; numbered = n; full = f; alone = a; room = r }
+    from j s (t ∷ rest) h n f a r =
+        (record { size = b .size; count = omega arith; numbered = n .0; full = f .0; alone = a .0; room = r .0 }, from (suc j) t rest (omega arith) (n .1) (f .1) (a .1) (r .1))
+
+-- and of the last
+pub each-last : (P : ℕ → Bool → Request → Type 0) (j : ℕ) (s : Sent) (rest : List Sent) → Each P j s rest → P (j + length rest) false (lastOf s rest .message)
+each-last P j s [] e =
+    let z : j + 0 ≡ j = omega arith in
+    rw z e
+each-last P j s (t ∷ rest) e =
+    let z : j + suc (length rest) ≡ suc j + length rest = omega arith in
+    rw z (each-last P (suc j) t rest (e .1))

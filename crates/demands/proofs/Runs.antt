@@ -1,0 +1,100 @@
+-- Laws of runs: calls cut in two, calls that are not on a key, and what a run keeps. Assumes nothing.
+use Prim.Native.Nat.{ℕ, _≤_, max}
+use mathlib.Core.Bool.{true}
+use mathlib.Core.Path.{_≡_, refl, ap, subst, sym, _∙_}
+use mathlib.Core.List.{List, [], _∷_, _++_, nil≢cons, cons≢nil, head-eq-of-cons-eq, tail-eq-of-cons-eq}
+use native.Mathlib.Omega.{arith}
+use Rattle.pieces.proofs.Tests.{by-cases}
+use Rattle.block_state.specs.declared.Config.{Config}
+use Rattle.block_state.specs.Message.{What, request, response}
+use Rattle.keys.specs.Keys.{same}
+use Rattle.places.specs.Places.{place, opened}
+use Rattle.block_handler.specs.Call.{World, Call, callAt, rowOf, call}
+use Rattle.block_handler.proofs.Frame.{WorldFits, call-fits, call-cases}
+use Rattle.demands.specs.Demand3.{Handler, Seen, run, after, callsOn, seenOn, All, AllBytes, Rising}
+use Rattle.demands.specs.Clocks.{OwnRising}
+
+-- ---- calls cut in two
+
+pub all-front : (P : Call → Type 0) (a b : List Call) → All P (a ++ b) → All P a
+all-front P [] b h = tt
+all-front P (q ∷ a) b h = (h .0, all-front P a b (h .1))
+
+pub all-behind : (P : Call → Type 0) (a b : List Call) → All P (a ++ b) → All P b
+all-behind P [] b h = h
+all-behind P (q ∷ a) b h = all-behind P a b (h .1)
+
+pub after-cut : (h : Handler) (c : Config) (a b : List Call) (w : World) → after h c w (a ++ b) ≡ after h c (after h c w a) b
+after-cut h c [] b w = refl
+after-cut h c (q ∷ a) b w = after-cut h c a b (h c w q .world)
+
+pub seen-cut : (h : Handler) (c : Config) (k : List ℕ) (a b : List Call) (w : World)
+    → seenOn k (run h c w (a ++ b)) ≡ seenOn k (run h c w a) ++ seenOn k (run h c (after h c w a) b)
+seen-cut h c k [] b w = refl
+seen-cut h c k (q ∷ a) b w =
+    let rest = seen-cut h c k a b (h c w q .world) in
+    by-cases (same k (q .key)) (λ y. rw (y, rest)) (λ n. rw (n, rest))
+
+pub none-seen : (h : Handler) (c : Config) (k : List ℕ) (calls : List Call) (w : World) → callsOn k calls ≡ [] → seenOn k (run h c w calls) ≡ []
+none-seen h c k [] w e = refl
+none-seen h c k (q ∷ calls) w e =
+    by-cases (same k (q .key)) (λ y. absurd (cons≢nil (rw y at e))) (λ n. rw n (none-seen h c k calls (h c w q .world) (rw n at e)))
+
+-- ---- the key's next call, with the calls before it and behind it
+
+pub record Cut (k : List ℕ) (calls : List Call) (q : Call) (l : List Call) : Type 0 where
+  pub before : List Call
+  pub behind : List Call
+  pub is : calls ≡ before ++ (q ∷ behind)
+  pub none : callsOn k before ≡ []
+  pub left : callsOn k behind ≡ l
+
+pub cut : (k : List ℕ) (calls : List Call) (q : Call) (l : List Call) → callsOn k calls ≡ q ∷ l → Cut k calls q l
+cut k [] q l e = absurd (nil≢cons e)
+cut k (p ∷ calls) q l e =
+    by-cases (same k (p .key))
+    (λ y.
+    let h : p ∷ callsOn k calls ≡ q ∷ l = rw y at e in
+    record { before = []; behind = calls; is = ap (λ (r : Call). r ∷ calls) (head-eq-of-cons-eq h); none = refl; left = tail-eq-of-cons-eq h })
+    (λ n.
+    let g = cut k calls q l (rw n at e) in
+    record { before = p ∷ g .before; behind = g .behind; is = ap (λ (r : List Call). p ∷ r) (g .is); none = rw n (g .none); left = g .left })
+
+-- the key's next call is not before t, nor before any of those ahead of it
+pub rising-cut : (k : List ℕ) (t : ℕ) (a : List Call) (q : Call) (b : List Call) → same k (q .key) ≡ true → OwnRising k t (a ++ (q ∷ b))
+    → (t ≤ q .time) × All (λ p. p .time ≤ q .time) a × OwnRising k (q .time) b
+rising-cut k t [] q b y h =
+    let up : t ≤ q .time = h .0 y in
+    let latest : max t (q .time) ≡ q .time = omega arith in
+    (up, tt, rw latest at (h .1))
+rising-cut k t (p ∷ a) q b y h =
+    let r = rising-cut k (max t (p .time)) a q b y (h .1) in
+    (omega (arith, r .0), (omega (arith, r .0), r .1), r .2)
+
+-- a clock that never goes back does not go back at the key's calls
+pub rising-own : (k : List ℕ) (t : ℕ) (calls : List Call) → Rising t calls → OwnRising k t calls
+rising-own k t [] h = tt
+rising-own k t (q ∷ calls) h =
+    let latest : max t (q .time) ≡ q .time = omega (arith, h .0) in
+    (λ y. h .0, rw latest (rising-own k (q .time) calls (h .1)))
+
+-- ---- what a run of calls keeps
+
+pub after-fits : (c : Config) (calls : List Call) (w : World) → WorldFits c w → AllBytes calls → WorldFits c (after call c w calls)
+after-fits c [] w f ab = f
+after-fits c (q ∷ calls) w f ab = after-fits c calls (call c w q .world) (call-fits c w q (ab .0) f) (ab .1)
+
+-- no call sets the clock past a time that neither it nor the clock has passed
+clock-under : (c : Config) (w : World) (q : Call) (end : ℕ) → w .table .clock ≤ end → q .time ≤ end → call c w q .world .table .clock ≤ end
+unfolding callAt
+clock-under c w q end h b =
+    call-cases (λ d. d .world .table .clock ≤ end) c w q (λ n. h) (λ named ok later p. placed (q .what))
+  where
+    placed : (y : What) → callAt c w (q .time) (rowOf c w q) (place (q .key) (rowOf c w q)) (opened (q .key) (rowOf c w q)) y .world .table .clock ≤ end
+    placed (request r) = b
+    placed (response r) = b
+
+pub after-clock : (c : Config) (end : ℕ) (calls : List Call) (w : World) → w .table .clock ≤ end → All (λ q. q .time ≤ end) calls
+    → after call c w calls .table .clock ≤ end
+after-clock c end [] w h nl = h
+after-clock c end (q ∷ calls) w h nl = after-clock c end calls (call c w q .world) (clock-under c w q end h (nl .0)) (nl .1)

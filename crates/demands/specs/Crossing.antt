@@ -1,0 +1,114 @@
+-- SIXTEEN TRANSFERS CROSS. From a fresh table: any list of calls over at most sixteen keys, in any order. Take a key whose own calls are pushes as demand 3
+-- has them, one after another, as many as you like: each push is answered Continue .., Handed with exactly its joined blocks. What the other keys'
+-- calls are does not matter; if each of the sixteen keys sends pushes, each of the sixteen is served so. In both modes.
+use Prim.Native.Nat.{ℕ, _≤_}
+use mathlib.Core.Bool.{Bool, true, false, cond, _&&_, _||_}
+use mathlib.Core.Path.{_≡_}
+use mathlib.Core.List.{List, [], _∷_, _++_, map}
+use lib.ListN.{length, take, drop}
+use lib.Dec.{leb}
+use Rattle.block_state.specs.declared.Config.{Config}
+use Rattle.block_state.specs.declared.Answer.the-variants.{Refused}
+use Rattle.keys.specs.Keys.{same, keyOk}
+use Rattle.block_table.specs.Table.{freshTable}
+use Rattle.judge.specs.Limits.{configOk, memoriesOk}
+use Rattle.block_handler.specs.Call.{World, Call, whatOk}
+use Rattle.demands.specs.Demand3.{Handler, Seen, run, callsOn, seenOn, Sent, callOn, joined, All, AllBytes, Blocks, HandsOn}
+
+-- ---- Which calls count
+
+-- The call's own key, bare, payload and head are within the limits: it gets no refusal 1 from a table and memories that are.
+abbrev pub inForm : Call → Bool
+inForm q = keyOk (q .key) && whatOk (q .what)
+
+-- A call counts if it is in form and its time is not before t, that of the last call that counted. (Else it is refused, with 1 or 2, and takes no entry.)
+abbrev pub counts : ℕ → Call → Bool
+counts t q = inForm q && leb t (q .time)
+
+-- The calls that count, where the clock stands at t.
+abbrev pub counted : ℕ → List Call → List Call
+counted t [] = []
+counted t (q ∷ calls) = cond (counts t q) (q ∷ counted (q .time) calls) (counted t calls)
+
+-- What was seen of the calls that count ..
+abbrev pub seenCounted : ℕ → List Call → List Seen → List Seen
+seenCounted t [] seen = []
+seenCounted t (q ∷ calls) [] = []
+seenCounted t (q ∷ calls) (s ∷ seen) = cond (counts t q) (s ∷ seenCounted (q .time) calls seen) (seenCounted t calls seen)
+
+-- .. and of the others: refusal 1 if the call is not in form, else 2.
+abbrev pub OthersRefused : ℕ → List Call → List Seen → Type 0
+OthersRefused t [] seen = Unit {0}
+OthersRefused t (q ∷ calls) [] = ⊥
+OthersRefused t (q ∷ calls) (s ∷ seen) =
+    cond (counts t q) (OthersRefused (q .time) calls seen) ((s .answer ≡ Refused (cond (inForm q) 2 1)) × OthersRefused t calls seen)
+
+-- ---- The run
+
+-- The key is one of these.
+abbrev pub among : List ℕ → List (List ℕ) → Bool
+among k [] = false
+among k (y ∷ keys) = same k y || among k keys
+
+abbrev pub AllAmong : List (List ℕ) → List Call → Type 0
+AllAmong keys = All (λ q. among (q .key) keys ≡ true)
+
+-- From a fresh table, with a configuration and memories within the limits: any calls at all, so long as those that count are over at most sixteen keys.
+pub record FromFresh (c : Config) (w : World) (keys : List (List ℕ)) (calls : List Call) : Type 0 where
+  pub fresh : w .table ≡ freshTable
+  pub config : configOk c ≡ true
+  pub memories : memoriesOk c (length (w .upload)) (length (w .response)) ≡ true
+  pub sixteen : length keys ≤ 16
+  pub over : AllAmong keys (counted 0 calls)
+  -- An option's bytes are below 256, as the types give it.
+  pub bytes : AllBytes calls
+
+-- ---- One key's pushes
+
+-- A push: its size is 2 to the power exponent + 4; its blocks are `first` and then `rest`. Each push has its own.
+pub record Transfer : Type 0 where
+  pub exponent : ℕ
+  pub first : Sent
+  pub rest : List Sent
+
+-- Each is as demand 3 has it.
+abbrev pub AllProper : Config → List Transfer → Type 0
+AllProper c [] = Unit {0}
+AllProper c (p ∷ rest) = Blocks c (p .exponent) (p .first) (p .rest) × AllProper c rest
+
+-- The calls of these pushes on key k, one push after another. Between two pushes any time may pass.
+abbrev pub callsOf : List ℕ → List Transfer → List Call
+callsOf k [] = []
+callsOf k (p ∷ rest) = map (callOn k) (p .first ∷ p .rest) ++ callsOf k rest
+
+-- The key's own calls, those that count, are these pushes.
+pub record Sends (c : Config) (k : List ℕ) (calls : List Call) (pushes : List Transfer) : Type 0 where
+  pub own : callsOn k (counted 0 calls) ≡ callsOf k pushes
+  pub proper : AllProper c pushes
+
+-- ---- What is promised
+
+-- Of what is seen, the first n hand on these bytes (n-1 times Continue, then Handed), and what follows hands on the pushes that follow, and no more.
+abbrev pub HandsAll : List Transfer → List Seen → Type 0
+HandsAll [] seen = seen ≡ []
+HandsAll (p ∷ rest) seen =
+    HandsOn (joined (p .first) (p .rest)) (take (length (p .first ∷ p .rest)) seen) × HandsAll rest (drop (length (p .first ∷ p .rest)) seen)
+
+-- A morning of pushes on each key.
+unfoldable pub MorningsCross : Handler → Type 0
+MorningsCross h =
+    (c : Config) (w : World) (keys : List (List ℕ)) (calls : List Call) → FromFresh c w keys calls
+    → (k : List ℕ) (pushes : List Transfer) → Sends c k calls pushes
+    → HandsAll pushes (seenOn k (seenCounted 0 calls (run h c w calls)))
+
+-- One push on each key.
+unfoldable pub SixteenCross : Handler → Type 0
+SixteenCross h =
+    (c : Config) (w : World) (keys : List (List ℕ)) (calls : List Call) → FromFresh c w keys calls
+    → (k : List ℕ) (p : Transfer) → Sends c k calls (p ∷ [])
+    → HandsOn (joined (p .first) (p .rest)) (seenOn k (seenCounted 0 calls (run h c w calls)))
+
+-- And the calls that do not count are refused with 1 or 2, as said.
+unfoldable pub OthersAreRefused : Handler → Type 0
+OthersAreRefused h =
+    (c : Config) (w : World) (keys : List (List ℕ)) (calls : List Call) → FromFresh c w keys calls → OthersRefused 0 calls (run h c w calls)

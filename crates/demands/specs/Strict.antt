@@ -1,0 +1,113 @@
+-- STRICT MODE SAYS NO. Whatever the table, the memories and the call: in strict mode no block is taken unless it is well formed and, but for block 0,
+-- the next; and what is not is refused, with 10 before 9, changing only the touch. Also a table of cases, beside document 01's cases 1 to 12.
+use Prim.Native.Nat.{ℕ, _≤_, _<_}
+use mathlib.Core.Bool.{Bool, true, false}
+use mathlib.Core.Path.{_≡_}
+use mathlib.Core.Logic.{_⊎_}
+use mathlib.Core.List.{List, [], _∷_}
+use lib.ListN.{length, replicate}
+use Rattle.block_value.specs.Value.{blockSize, blockStart}
+use Rattle.block_value.specs.declared.BlockValue.{BlockValue}
+use Rattle.negotiation.specs.Negotiation.{requestBlock, negotiated}
+use Rattle.negotiation.specs.declared.MaybeBlock.the-variants.{Absent, Given}
+use Rattle.negotiation.specs.declared.Negotiated.the-variants.{Block}
+use Rattle.block_state.specs.declared.Config.{Config}
+use Rattle.block_state.specs.declared.Assembled.{Assembled}
+use Rattle.block_state.specs.declared.BlockState.{BlockState}
+use Rattle.block_state.specs.declared.Answer.{Answer}
+use Rattle.block_state.specs.declared.Answer.the-variants.{Continue, TooLarge, Handed, Pass, Served, Plain, Whole, First, Refused}
+use Rattle.block_state.specs.Message.{Request, request}
+use Rattle.block_state.specs.State.{assembly, nothing, withAssembled}
+use Rattle.block_state.specs.Step.{bytesFrom}
+use Rattle.places.specs.Places.{place, opened}
+use Rattle.block_handler.specs.Call.{World, Call, rowOf, withinLimits}
+use Rattle.demands.specs.Demand3.{Handler, block}
+use Rattle.demands.specs.Cases.{Row, answers, step}
+use Rattle.demands.specs.Touch.{RefusesTo}
+
+-- The answer took a block: Continue, Handed, or a Served that carries Block1 too.
+abbrev pub tookBlock : Answer → Bool
+tookBlock (Continue b) = true
+tookBlock (TooLarge b) = false
+tookBlock (Handed b body) = true
+tookBlock Pass = false
+tookBlock (Served (Given b) b2 head chunk) = true
+tookBlock (Served Absent b2 head chunk) = false
+tookBlock Plain = false
+tookBlock (Whole b chunk) = false
+tookBlock (First b chunk) = false
+tookBlock (Refused n) = false
+
+-- What the call's key has assembled when the call comes: the length L and the kept exponent; zeros where it has no live entry.
+abbrev pub assembledFor : Config → World → Call → Assembled
+assembledFor c w q = opened (q .key) (rowOf c w q) .state .assembled
+
+-- ---- A block that was taken
+
+pub record RightlyTaken (l : Assembled) (r : Request) (b : BlockValue) : Type 0 where
+  -- b is the request's Block1 value.
+  pub given : requestBlock (r .block1) ≡ Given b
+  -- Its exponent is at most 6, its payload no longer than its size, and just as long if it is marked "more".
+  pub exponent : b .«size_exponent» ≤ 6
+  pub short : length (r .payload) ≤ blockSize b
+  pub full : b .more ≡ true → length (r .payload) ≡ blockSize b
+  -- If it is not block 0, it starts where the assembly ends, and has the exponent that was kept.
+  pub next : (b .num ≡ 0 → ⊥) → (blockStart b ≡ l .len) × (b .«size_exponent» ≡ l .exponent)
+
+-- ---- A block that is refused
+
+-- Badly formed: exponent 7, or longer than its size, or marked and not full.
+abbrev pub BadlyFormed : BlockValue → ℕ → Type 0
+BadlyFormed b p = (b .«size_exponent» ≡ 7) ⊎ (blockSize b < p) ⊎ ((b .more ≡ true) × (p ≡ blockSize b → ⊥))
+
+-- Misplaced: not block 0, and not at the end of the assembly with the kept exponent.
+abbrev pub Misplaced : Assembled → BlockValue → Type 0
+Misplaced l b = (b .num ≡ 0 → ⊥) × ((blockStart b ≡ l .len) × (b .«size_exponent» ≡ l .exponent) → ⊥)
+
+-- A request with Block1 value b that passes checks 1 to 5: within the limits, not before the clock, with a place, and some block is agreed.
+pub record PassesFive (c : Config) (w : World) (q : Call) (r : Request) (b : BlockValue) : Type 0 where
+  pub asks : q .what ≡ request r
+  pub given : requestBlock (r .block1) ≡ Given b
+  pub limits : withinLimits c w q ≡ true
+  pub sixteen : length (w .table .entries) ≡ 16
+  pub clock : w .table .clock ≤ q .time
+  pub placed : place (q .key) (rowOf c w q) < 16
+  pub reply : BlockValue
+  pub agreed : negotiated (Given b) (r .bare) (length (r .payload)) (c .limit) ≡ Block reply
+
+pub record StrictSaysNo (h : Handler) : Type 0 where
+  -- Any answer that took a block took it rightly.
+  pub taken : (c : Config) (w : World) (q : Call) (r : Request) → c .strict ≡ true → q .what ≡ request r → tookBlock (h c w q .answer) ≡ true
+      → (b : BlockValue) × RightlyTaken (assembledFor c w q) r b
+  -- Badly formed: 10, misplaced or not. (So 10 stands before 9.)
+  pub ten : (c : Config) (w : World) (q : Call) (r : Request) (b : BlockValue) → c .strict ≡ true → PassesFive c w q r b
+      → BadlyFormed b (length (r .payload)) → RefusesTo 10 h c w q
+  -- Well formed and misplaced: 9.
+  pub nine : (c : Config) (w : World) (q : Call) (r : Request) (b : BlockValue) → c .strict ≡ true → PassesFive c w q r b
+      → (BadlyFormed b (length (r .payload)) → ⊥) → Misplaced (assembledFor c w q) b → RefusesTo 9 h c w q
+
+-- ---- Cases, as rows of a table of their own (T 1152, U 64, bare 20)
+
+-- 32 bytes are assembled, and the kept exponent is 0 (size 16).
+abbrev pub kept : BlockState
+kept = withAssembled nothing (assembly 32 0)
+
+abbrev pub strictCases : List Row
+strictCases =
+    -- L 32 kept at size 16, num 1 of size 32: it starts at L, but has another exponent. Refusal 9; plain mode takes it.
+    answers (step true kept (replicate 64 1) (0x19 ∷ []) (replicate 32 2) .answer) (Refused 9)
+    ∷ answers (step false kept (replicate 64 1) (0x19 ∷ []) (replicate 32 2) .answer) (Continue (block 1 false 1))
+    -- Num 1 of size 16: an earlier offset. Refusal 9; plain mode takes it.
+    ∷ answers (step true kept (replicate 64 1) (0x18 ∷ []) (replicate 16 2) .answer) (Refused 9)
+    ∷ answers (step false kept (replicate 64 1) (0x18 ∷ []) (replicate 16 2) .answer) (Continue (block 1 false 0))
+    -- Num 2 of size 16: the next. Taken.
+    ∷ answers (step true kept (replicate 64 1) (0x28 ∷ []) (replicate 16 2) .answer) (Continue (block 2 false 0))
+    -- Exponent 7 with a short unmarked payload, num 0. Refusal 10; plain mode takes it.
+    ∷ answers (step true nothing (replicate 64 1) (0x07 ∷ []) (replicate 4 2) .answer) (Refused 10)
+    ∷ answers (step false nothing (replicate 64 1) (0x07 ∷ []) (replicate 4 2) .answer) (Handed (block 0 false 6) (bytesFrom 0 4))
+    -- A payload longer than its size; one that is marked and short. Refusal 10.
+    ∷ answers (step true nothing (replicate 64 1) [] (replicate 17 2) .answer) (Refused 10)
+    ∷ answers (step true nothing (replicate 64 1) (0x08 ∷ []) (replicate 15 2) .answer) (Refused 10)
+    -- Both faults at once: nothing assembled, num 1, marked and short. Refusal 10, not 9.
+    ∷ answers (step true nothing (replicate 64 1) (0x18 ∷ []) (replicate 15 2) .answer) (Refused 10)
+    ∷ []
