@@ -24,14 +24,22 @@ unfoldable pub memories : Unit {0}
 unfolding memory.patch memory.part memory.within memory.pieceOf memory.putPiece splice.spliceOf splice.spliced splice.pieceAfter
 memories = tt
 
+unfoldable pub taking : Unit {0}
+unfolding values memories block1.badForm block1.notNext block1.lengthMet block1.taken block1.onSplice block1.block1Given block2.served block2.onward
+taking = tt
+
 -- the steps of both calls
 unfoldable pub steps : Unit {0}
-unfolding values memories block1.badForm block1.notNext block1.lengthMet block1.taken block1.onSplice block1.block1Given block2.served block2.onward step.onNegotiated step.stepRequest reply.chunked reply.onReply reply.stepResponse
+unfolding taking step.onNegotiated step.stepRequest reply.chunked reply.onReply reply.stepResponse
 steps = tt
+
+unfoldable pub entry : Unit {0}
+unfolding state.assembledOk state.cachedOk state.recordedOk state.stateOk state.isNothing keys.keyOf keys.storedOk keys.stored keys.isNoKey entries.entryOk
+entry = tt
 
 -- the limits of a configuration, a table and a call
 unfoldable pub limits : Unit {0}
-unfolding state.assembledOk state.cachedOk state.recordedOk state.stateOk state.isNothing keys.same keys.keyOk keys.keyOf keys.storedOk keys.stored keys.isNoKey entries.holds entries.entryOk entries.clash table.distinct table.tableOk judge.configOk judge.memoriesOk h.whatOk h.withinLimits
+unfolding entry keys.same keys.keyOk entries.holds entries.clash table.distinct table.tableOk judge.configOk judge.memoriesOk h.whatOk h.withinLimits
 limits = tt
 
 unfoldable pub calls : Unit {0}

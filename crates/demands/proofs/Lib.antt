@@ -16,3 +16,4 @@ pub mod Crossing
 pub mod Strict
 pub mod Pairing
 pub mod Pages
+pub mod Given

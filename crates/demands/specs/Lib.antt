@@ -10,3 +10,4 @@ pub mod Crossing
 pub mod Strict
 pub mod Pairing
 pub mod Pages
+pub mod Given

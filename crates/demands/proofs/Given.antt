@@ -1,0 +1,309 @@
+-- What the statements ask for can be given, by computation. Assumes nothing.
+use Prim.Native.Nat.{ℕ, _+_, _≤_, _<_}
+use mathlib.Core.Bool.{Bool, true, false, _&&_, false≢true}
+use mathlib.Core.Path.{_≡_, refl, sym, _∙_, ap, subst}
+use mathlib.Core.Logic.{inr}
+use mathlib.Core.List.{List, [], _∷_, _++_, map}
+use mathlib.Core.Option.{none, some}
+use native.Mathlib.Omega.{arith}
+use lib.ListN.{length, getD-replicate}
+use lib.Dec.{ltb}
+use borrow.Author.Tests.{ltb-true}
+use Rattle.pieces.proofs.Tests.{and-left, and-right, clash-of}
+use Rattle.block_value.specs.Value.{sizeOf}
+use Rattle.block_state.specs.Message.{request, WhatBytes}
+use Rattle.block_state.specs.Answers.{said, served}
+use Rattle.keys.specs.Keys as keys
+use Rattle.entries.specs.Entries.{free, live}
+use Rattle.answers.specs.Parts.{servedChunk}
+use Rattle.block_handler.specs.Call.{Call, call, withinLimits}
+use Rattle.demands.specs.Demand3.{callsOn, Sent, callOn, block, All, AllBytes, HasFree, NothingInPlain, Blocks, Granted}
+use Rattle.demands.specs.Clocks.{GrantedOwn}
+use Rattle.demands.specs.Twice.{SentAgain}
+use Rattle.demands.specs.Crossing.{among, AllAmong, counted, callsOf, FromFresh, Sends}
+use Rattle.demands.specs.Strict.{PassesFive}
+use Rattle.demands.specs.Pages.{lastStored}
+use Rattle.demands.specs.Shams.{config, fresh, key, firstBlock, lastBlock, later}
+use Rattle.demands.specs.Given.{large, lentWorld, full, sixteenMore, farAgain, keyOfByte, firstOf, nextOf, singleOf, pushesOf, onEach}
+use Rattle.demands.specs.Given.{bytes, backwards, refused, crossing, EachSends, goesBack, bothFaults, page, storing, asked, AllCanBeGiven}
+use Rattle.demands.proofs.Computes.{values, limits, calls}
+use Rattle.demands.proofs.Runs.{rising-own}
+use Rattle.demands.proofs.Shams.{can-be-given}
+
+-- ---- what holds of every call, by one test
+
+every : (Call → Bool) → List Call → Bool
+every p [] = true
+every p (q ∷ calls) = p q && every p calls
+
+every-all : (p : Call → Bool) (calls : List Call) → every p calls ≡ true → All (λ q. p q ≡ true) calls
+unfolding every
+every-all p [] h = tt
+every-all p (q ∷ calls) h = (and-left (p q) (every p calls) h, every-all p calls (and-right (p q) (every p calls) h))
+
+bytes-each : (s : ℕ → Sent) → ((b : ℕ) → WhatBytes (request (s b .message))) → (l : List ℕ) → AllBytes (onEach s l)
+bytes-each s h [] = tt
+bytes-each s h (b ∷ l) = (h b, bytes-each s h l)
+
+bytes-both : (a b : List Call) → AllBytes a → AllBytes b → AllBytes (a ++ b)
+bytes-both [] b h k = k
+bytes-both (q ∷ a) b h k = (h .0, bytes-both a b (h .1) k)
+
+-- ---- sixteen keys
+
+abbrev counting : List Call
+counting = onEach firstOf bytes ++ (onEach nextOf backwards ++ onEach singleOf bytes)
+
+-- all count but the two that are refused
+counted-is : counted 0 crossing ≡ counting
+unfolding limits
+counted-is = refl
+
+sends : (strict : Bool) (b : ℕ) → callsOn (keyOfByte b) counting ≡ callsOf (keyOfByte b) (pushesOf b) → Sends (config strict) (keyOfByte b) crossing (pushesOf b)
+unfolding values
+sends strict b own =
+    record {
+      own = ap (callsOn (keyOfByte b)) counted-is ∙ own;
+      proper = (
+        record {
+          count = omega arith;
+          numbered = (refl, refl);
+          size = omega arith;
+          full = (refl, omega arith);
+          alone = (refl, refl);
+          room = (omega arith, omega arith);
+          fits = omega arith;
+          prompt = (omega arith, tt);
+        },
+        (
+          record {
+            count = omega arith;
+            numbered = refl;
+            size = omega arith;
+            full = omega arith;
+            alone = refl;
+            room = omega arith;
+            fits = omega arith;
+            prompt = tt;
+          },
+          tt,
+        ),
+      );
+    }
+
+-- ---- seventeen blocks
+
+has-free : (u d : List ℕ) → HasFree large (lentWorld u d) 1
+unfolding live
+has-free u d = (0, omega arith, refl)
+
+none-live : (u d : List ℕ) → NothingInPlain large (lentWorld u d) 1 key
+unfolding live
+none-live u d plain i b h y = absurd (clash-of (live 120000 1 free) (sym (ap (λ e. live 120000 1 e) (getD-replicate 16 i free free b)) ∙ y) refl)
+
+within : (u d : List ℕ) → length u ≡ 262160 → length d ≡ 256 → withinLimits large (lentWorld u d) (callOn key (full 0x0E)) ≡ true
+unfolding limits
+within u d hu hd = rw (hu, hd)
+
+seventeen : Blocks large 6 (full 0x0E) sixteenMore
+unfolding values
+seventeen =
+    let r : 20 + 12 + sizeOf 6 ≤ 1152 = omega arith in
+    let p : 1 < 1 + 120000 = omega arith in
+    record {
+      count = omega arith;
+      numbered = (refl, (refl, (refl, (refl, (refl, (refl, (refl, (refl, (refl, (refl, (refl, (refl, (refl, (refl, (refl, (refl, refl))))))))))))))));
+      size = omega arith;
+      full = (refl, (refl, (refl, (refl, (refl, (refl, (refl, (refl, (refl, (refl, (refl, (refl, (refl, (refl, (refl, (refl, omega arith))))))))))))))));
+      alone = (refl, (refl, (refl, (refl, (refl, (refl, (refl, (refl, (refl, (refl, (refl, (refl, (refl, (refl, (refl, (refl, refl))))))))))))))));
+      room = (r, (r, (r, (r, (r, (r, (r, (r, (r, (r, (r, (r, (r, (r, (r, (r, r))))))))))))))));
+      fits = omega arith;
+      prompt = (p, (p, (p, (p, (p, (p, (p, (p, (p, (p, (p, (p, (p, (p, (p, (p, tt))))))))))))))));
+    }
+
+far-bytes : AllBytes (map (callOn key) (full 0x0E ∷ sixteenMore))
+far-bytes = (
+  b 0x0E refl,
+  (
+    b 0x1E refl,
+    (
+      b 0x2E refl,
+      (
+        b 0x3E refl,
+        (
+          b 0x4E refl,
+          (
+            b 0x5E refl,
+            (
+              b 0x6E refl,
+              (
+                b 0x7E refl,
+                (
+                  b 0x8E refl,
+                  (
+                    b 0x9E refl,
+                    (b 0xAE refl, (b 0xBE refl, (b 0xCE refl, (b 0xDE refl, (b 0xEE refl, (b 0xFE refl, (((omega arith, (omega arith, tt)), tt), tt))))))),
+                  ),
+                ),
+              ),
+            ),
+          ),
+        ),
+      ),
+    ),
+  ),
+)
+  where
+    b : (n : ℕ) → ltb n 256 ≡ true → WhatBytes (request (full n .message))
+    b n h = ((ltb-true n 256 h, tt), tt)
+
+far-granted : (u d : List ℕ) → length u ≡ 262160 → length d ≡ 256 → GrantedOwn large (lentWorld u d) key 6 (full 0x0E) sixteenMore (map (callOn key) sixteenMore)
+unfolding keys.same
+far-granted u d hu hd =
+    let t : 1 ≤ 1 = omega arith in
+    record {
+      entry = inr (has-free u d);
+      nothing = none-live u d;
+      push = record { limits = within u d hu hd; sixteen = refl; bytes = far-bytes; blocks = seventeen; own = refl };
+      clock = rising-own key 0 (map (callOn key) (full 0x0E ∷ sixteenMore))
+          (omega arith, (t, (t, (t, (t, (t, (t, (t, (t, (t, (t, (t, (t, (t, (t, (t, (t, tt)))))))))))))))));
+    }
+
+-- ---- all of them
+
+-- a push as the mission has it is one as Clocks.antt has it
+own : (strict : Bool) (x : ℕ) (first : Sent) (rest : List Sent) (calls : List Call) → Granted (config strict) fresh key x first rest calls
+    → GrantedOwn (config strict) fresh key x first rest calls
+own strict x first rest calls g = record { entry = g .entry; nothing = g .nothing; push = g .push; clock = rising-own key 0 (callOn key first ∷ calls) (g .clock) }
+
+passes-five : PassesFive (config true) fresh (callOn key bothFaults) (bothFaults .message) (block 1 true 0)
+unfolding calls
+passes-five =
+    record { asks = refl; given = refl; limits = refl; sixteen = refl; clock = omega arith; placed = omega arith; reply = block 1 false 0; agreed = refl }
+
+serves-it : (strict : Bool) → said (asked strict .answer) .kind ≡ served
+unfolding calls
+serves-it true = refl
+serves-it false = refl
+
+stored-it : (strict : Bool) → lastStored call (config strict) fresh key none storing ≡ some page
+unfolding calls
+stored-it true = refl
+stored-it false = refl
+
+chunk-it : (strict : Bool) → servedChunk (asked strict .answer) (asked strict .world .response) ≡ 68 ∷ []
+unfolding calls
+chunk-it true = refl
+chunk-it false = refl
+
+crosses : (strict : Bool) → FromFresh (config strict) fresh (map keyOfByte bytes) crossing
+unfolding limits every
+crosses strict =
+    record {
+      fresh = refl;
+      config = refl;
+      memories = refl;
+      sixteen = omega arith;
+      over = subst (AllAmong (map keyOfByte bytes)) (sym counted-is) (every-all (λ q. among (q .key) (map keyOfByte bytes)) counting refl);
+      bytes = bytes-both (onEach firstOf bytes) (refused ++ (onEach nextOf backwards ++ onEach singleOf bytes))
+          (bytes-each firstOf (λ b. ((omega arith, tt), tt)) bytes)
+          (bytes-both refused (onEach nextOf backwards ++ onEach singleOf bytes) ((tt, tt), (((omega arith, tt), tt), tt))
+          (bytes-both (onEach nextOf backwards) (onEach singleOf bytes) (bytes-each nextOf (λ b. ((omega arith, tt), tt)) backwards)
+          (bytes-each singleOf (λ b. (tt, tt)) bytes)));
+    }
+
+each-sends : (strict : Bool) → EachSends strict bytes
+unfolding keys.same
+each-sends strict = (
+  s 1 refl,
+  (
+    s 2 refl,
+    (
+      s 3 refl,
+      (
+        s 4 refl,
+        (
+          s 5 refl,
+          (
+            s 6 refl,
+            (
+              s 7 refl,
+              (
+                s 8 refl,
+                (
+                  s 9 refl,
+                  (
+                    s 10 refl,
+                    (
+                      s 11 refl,
+                      (
+                        s 12 refl,
+                        (
+                          s 13 refl,
+                          (s 14 refl, (s 15 refl, (s 16 refl, tt))),
+                        ),
+                      ),
+                    ),
+                  ),
+                ),
+              ),
+            ),
+          ),
+        ),
+      ),
+    ),
+  ),
+)
+  where
+    s : (b : ℕ) → callsOn (keyOfByte b) counting ≡ callsOf (keyOfByte b) (pushesOf b) → Sends (config strict) (keyOfByte b) crossing (pushesOf b)
+    s = sends strict
+
+goes-back : (strict : Bool) → GrantedOwn (config strict) fresh key 0 firstBlock (lastBlock ∷ []) goesBack
+unfolding keys.same
+goes-back strict =
+    let g = can-be-given .two strict in
+    record {
+      entry = g .entry;
+      nothing = g .nothing;
+      push = record {
+        limits = g .push .limits;
+        sixteen = refl;
+        bytes = (((omega arith, tt), tt), (((omega arith, tt), tt), (((omega arith, tt), tt), (((omega arith, tt), tt), tt))));
+        blocks = g .push .blocks;
+        own = refl;
+      };
+      clock = (λ y. omega arith, (λ y. omega arith, (λ y. absurd (false≢true y), (λ y. omega arith, tt))));
+    }
+
+far-again : (u d : List ℕ) → length u ≡ 262160 → length d ≡ 256 → SentAgain large (lentWorld u d) key 6 (full 0x0E) sixteenMore (map (callOn key) sixteenMore) farAgain
+far-again u d hu hd =
+    let t : 1 ≤ 2 = omega arith in
+    record {
+      granted = far-granted u d hu hd;
+      same = refl;
+      clock = (t, (t, (t, (t, (t, (t, (t, (t, (t, (t, (t, (t, (t, (t, (t, (t, (t, tt)))))))))))))))));
+      soon = omega arith;
+    }
+
+pub all-can-be-given : AllCanBeGiven
+unfolding calls
+all-can-be-given =
+    record {
+      twice = λ strict. record {
+        granted = own strict 0 firstBlock (lastBlock ∷ []) later (can-be-given .two strict);
+        same = refl;
+        clock = (omega arith, (omega arith, (omega arith, (omega arith, (omega arith, (omega arith, tt))))));
+        soon = omega arith;
+      };
+      once = λ strict. record { granted = own strict 0 _ [] [] (can-be-given .one strict); same = refl; clock = (omega arith, tt); soon = omega arith };
+      far = far-again;
+      cross = crosses;
+      each = each-sends;
+      back = goes-back;
+      five = passes-five;
+      bad = inr (inr (refl, λ e. let z : _≡_ {A = ℕ} 15 16 = e in omega arith));
+      misplaced = (λ e. let z : _≡_ {A = ℕ} 1 0 = e in omega arith, λ e. let z : _≡_ {A = ℕ} 16 0 = e .0 in omega arith);
+      serves = serves-it;
+      stored = stored-it;
+      chunk = chunk-it;
+    }
