@@ -3,6 +3,7 @@ use Prim.Native.Nat.{ℕ}
 use mathlib.Core.Bool.{cond, _&&_}
 use mathlib.Core.List.{List, [], _∷_, map}
 use lib.Dec.{leb, eqb}
+use Rattle.option_table.specs.declared.Columns.{Columns}
 use Rattle.option_table.specs.declared.Length.{Length}
 use Rattle.option_table.specs.declared.Length.the-variants.{Unknown, Allowed, NotAllowed}
 
@@ -58,3 +59,6 @@ leasts = map (λ (r : Row). r .least)
 
 abbrev pub mosts : List Row → List ℕ
 mosts = map (λ (r : Row). r .most)
+
+abbrev pub columnsOf : List Row → Columns
+columnsOf rows = record { numbers = numbers rows; least = leasts rows; most = mosts rows }

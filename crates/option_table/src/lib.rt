@@ -1,6 +1,6 @@
 // The CoAP options that RFC 7252, RFC 7641 and RFC 7959 register, and the lengths that a value may have.
 ghost use mathlib.Core.Path.{_≡_};
-ghost use Rattle.option_table.specs.Options.{limited, allowedOf};
+ghost use Rattle.option_table.specs.Options.{table, columnsOf, limited, allowedOf};
 
 // Whether a number is in the table, and a length within its limits.
 pub enum Length {
@@ -56,6 +56,23 @@ const MOST: [u16; 19] = [
     4,
 ];
 
+// The three columns, which are those of the table that the definitions speak of.
+struct Columns {
+    numbers: [u16; 19],
+    least: [u16; 19],
+    most: [u16; 19],
+}
+
+fn all_columns() -> Columns
+    ensures { λ r. ⌜ r ≡ columnsOf table ⌝ }
+{
+    Columns {
+        numbers: NUMBERS,
+        least: LEAST,
+        most: MOST,
+    }
+}
+
 fn within(least: u16, most: u16, len: usize) -> Length
     ensures { λ r. ⌜ r ≡ limited least most len ⌝ }
 {
@@ -73,7 +90,10 @@ fn within(least: u16, most: u16, len: usize) -> Length
 pub fn length_allowed(number: u16, len: usize) -> Length
     ensures { λ r. ⌜ r ≡ allowedOf number len ⌝ }
 {
-    let numbers = NUMBERS;
+    let columns = all_columns();
+    let numbers = columns.numbers;
+    let least = columns.least;
+    let most = columns.most;
     let mut i: usize = 0;
     while i < 19 && numbers[i] < number {
         i += 1;
@@ -84,5 +104,5 @@ pub fn length_allowed(number: u16, len: usize) -> Length
     if numbers[i] != number {
         return Length::Unknown;
     }
-    within(LEAST[i], MOST[i], len)
+    within(least[i], most[i], len)
 }

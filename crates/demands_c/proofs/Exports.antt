@@ -1,0 +1,59 @@
+-- DEMAND 3 OF WHAT PEOPLE LINK. Assumes nothing.
+use Prim.Native.Nat.{ℕ}
+use mathlib.Core.Path.{_≡_, refl, sym, ap, ap₂, _∙_}
+use mathlib.Core.List.{List, [], _∷_, map}
+use Rattle.pieces.proofs.Tests.{by-cases}
+use Rattle.block_state.specs.declared.Config.{Config}
+use Rattle.block_state.specs.declared.Answer.{Answer}
+use Rattle.block_state.specs.Answers.{Kind, said}
+use Rattle.keys.specs.Keys.{same}
+use Rattle.block_handler.specs.Call.{World, Call, call}
+use Rattle.replies.specs.declared.Reply.{Reply}
+use Rattle.replies.specs.Reply.{replyOf, kindNumber}
+use Rattle.replies.specs.Found.{foundIn, bytesAt, bodyIn}
+use Rattle.replies.proofs.Shown.{body-bytes}
+use Rattle.handler_c.specs.Contract.{Replies}
+use Rattle.demands.specs.Demand3.{Seen, seen, run, seenOn, payloadOf, Sent, callOn, joined, HandsOn, Demand3}
+use Rattle.demands.proofs.Demand3.{demand3}
+use Rattle.demands_c.specs.Exports.{Returned, RanInC, SeenInC, seenInC, seenOfC, seenOnInC, HandsOnInC, Demand3InC, DeterminedInC}
+
+-- what C sees of what was seen
+abbrev inC : Seen → SeenInC
+inC s = record { key = s .key; kind = kindNumber (said (s .answer) .kind); shown = s .shown }
+
+seen-in-C : (c : Config) (w : World) (q : Call) (d : Returned) → Replies c w q (d .world) (d .reply) → seenInC q d ≡ inC (seen q (call c w q))
+seen-in-C c w q d m =
+    let same : d ≡ record { world = call c w q .world; reply = replyOf (call c w q .answer) } = λ i. record { world = m .0 i; reply = m .1 i } in
+    ap (seenInC q) same
+    ∙ ap (λ (b : List ℕ). record { key = q .key; kind = kindNumber (said (call c w q .answer) .kind); shown = b })
+    (body-bytes (call c w q .answer) (payloadOf (q .what)) (call c w q .world .upload))
+
+ran-in-C : (c : Config) (w : World) (calls : List Call) (results : List Returned) → RanInC c w calls results
+    → seenOfC calls results ≡ map inC (run call c w calls)
+ran-in-C c w [] [] r = refl
+ran-in-C c w [] (d ∷ results) r = absurd r
+ran-in-C c w (q ∷ calls) [] r = absurd r
+ran-in-C c w (q ∷ calls) (d ∷ results) r =
+    let v : d .world ≡ call c w q .world = r .0 .0 in
+    let rest : seenOfC calls results ≡ map inC (run call c (call c w q .world) calls) = ran-in-C c (d .world) calls results (r .1) ∙ ap (λ (w : World). map inC (run call c w calls)) v in
+    ap₂ _∷_ (seen-in-C c w q d (r .0)) rest
+
+seen-on-in-C : (k : List ℕ) (l : List Seen) → seenOnInC k (map inC l) ≡ map inC (seenOn k l)
+seen-on-in-C k [] = refl
+seen-on-in-C k (s ∷ l) =
+    by-cases (same k (s .key)) (λ y. rw y (ap (λ (r : List SeenInC). inC s ∷ r) (seen-on-in-C k l))) (λ n. rw n (seen-on-in-C k l))
+
+hands-on-in-C : (bytes : List ℕ) (l : List Seen) → HandsOn bytes l → HandsOnInC bytes (map inC l)
+hands-on-in-C bytes [] h = h
+hands-on-in-C bytes (s ∷ []) h = (ap kindNumber (h .0), h .1)
+hands-on-in-C bytes (s ∷ t ∷ l) h = (ap kindNumber (h .0), hands-on-in-C bytes (t ∷ l) (h .1))
+
+pub demand3-in-C : Demand3InC
+unfolding Demand3InC Demand3
+demand3-in-C c w k x first rest later results g r =
+    rw (ran-in-C c w (callOn k first ∷ later) results r, seen-on-in-C k (run call c w (callOn k first ∷ later)))
+    (hands-on-in-C (joined first rest) (seenOn k (run call c w (callOn k first ∷ later))) (demand3 c w k x first rest later g))
+
+pub determined-in-C : DeterminedInC
+unfolding DeterminedInC
+determined-in-C c w q v v′ r r′ m n = (m .0 ∙ sym (n .0), m .1 ∙ sym (n .1))
