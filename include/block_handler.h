@@ -30,12 +30,18 @@ extern "C" {
 
 /* How the handler is set up. Another `upload` or `response` needs a fresh table: the pieces of the memories lie elsewhere then. */
 struct block_handler_config {
-    bool strict;       /* false: plain mode, as the Rust answers. true: only the next block is taken, and all but the last are full; block 0 starts afresh. */
+    bool strict;       /* false: plain mode, as the Rust answers. true: only the next block is taken, and all but the last are full; block 0 starts afresh. See below. */
     size_t limit;      /* T, the most bytes of a message: 1 to 65535. */
     uint64_t lifetime; /* Milliseconds that a key lives after its last call: 1 to 4294967295. */
     size_t upload;     /* U, the length of one piece of the upload memory: 16 to 65536. The memory is 16 * U long. */
     size_t response;   /* V, the length of one piece of the response memory: 16 to 65536. The memory is 16 * V long. */
 };
+
+/* Which mode: a lane should be strict. In plain mode
+ * - a list that is cancelled and sent again shorter keeps the old list's tail behind it;
+ * - THE LAST BLOCK SENT TWICE IS A CORRUPT LIST: once a list of n blocks was handed on, its last block again is answered HANDED, and the body is zero bytes in place of
+ *   the first n - 1 blocks and then that block. (Past 16384 bytes it is refusal 6.)
+ * In strict mode the first hands on the new list alone, and the second gets refusal 9, or, for a list of one block, the same list again. */
 
 /* A key's bytes and their number. Bytes past the length are never compared. */
 struct block_handler_key {

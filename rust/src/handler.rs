@@ -18,7 +18,8 @@ pub struct BlockHandlerConfig {
     /// How long a key's state lives without a call, in whole milliseconds: 1 to 4,294,967,295 of them.
     pub cache_expiry_duration: Duration,
     /// In strict mode an upload is its blocks in order from block 0, and nothing else. Plain mode answers as coap-lite does, and takes
-    /// blocks in any order: a push that is sent again, and is shorter, keeps the old one's tail.
+    /// blocks in any order: a push that is sent again, and is shorter, keeps the old one's tail; and the last block of a push, sent twice,
+    /// hands on a corrupt body the second time, zeros in place of all blocks but that one. A lane should be strict.
     pub strict: bool,
     /// The longest upload: the length of each key's piece of the upload memory, 16 to 65,536.
     pub max_upload: usize,

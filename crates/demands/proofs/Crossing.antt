@@ -1,6 +1,6 @@
 -- SIXTEEN TRANSFERS CROSS, and mornings of them. Assumes nothing.
 use Prim.Native.Nat.{ℕ, _*_, _≤_, _<_}
-use mathlib.Core.Bool.{Bool, true, false, cond, false≢true}
+use mathlib.Core.Bool.{true, false, cond, false≢true}
 use mathlib.Core.Path.{_≡_, refl, sym, _∙_, ap, subst}
 use mathlib.Core.List.{List, [], _∷_, _++_, map, append-nil, cons≢nil}
 use native.Mathlib.Omega.{arith}
@@ -25,10 +25,10 @@ use Rattle.places.proofs.Places.{opened-key}
 use Rattle.judge.specs.Limits.{memoriesOk}
 use Rattle.block_handler.specs.Call.{World, Call, done, whatOk, callAt, rowOf, withinLimits, call}
 use Rattle.block_handler.proofs.Frame.{WorldFits, fits-limits, call-fits, call-placed}
-use Rattle.demands.specs.Demand3.{Seen, seen, run, after, callsOn, seenOn, Sent, callOn, joined, Rising, All, AllBytes, entryAt, HandsOn}
+use Rattle.demands.specs.Demand3.{Seen, seen, run, after, callsOn, seenOn, Sent, callOn, joined, Rising, All, AllBytes, entryAt}
 use Rattle.demands.specs.Clocks.{OwnRising}
 use Rattle.demands.specs.Twice.{lastOf}
-use Rattle.demands.specs.Crossing.{inForm, counts, counted, seenCounted, OthersRefused, among, AllAmong, FromFresh, Transfer, AllProper, callsOf, Sends, HandsAll, MorningsCross, SixteenCross, OthersAreRefused}
+use Rattle.demands.specs.Crossing.{inForm, counts, counted, seenCounted, UncountedRefused, among, AllAmong, FromFresh, Transfer, AllProper, callsOf, HandsAll, MorningsCross, SixteenCross, UncountedAreRefused}
 use Rattle.demands.proofs.Runs.{all-front, all-behind, seen-cut, none-seen, Cut, cut, rising-cut, rising-own, after-fits, after-clock}
 use Rattle.demands.proofs.Held.{Held}
 use Rattle.demands.proofs.Push.{Pushed, ready-first, pass, push-from, each-block}
@@ -183,7 +183,7 @@ module _ (c : Config) (keys : List (List ℕ)) (few : length keys ≤ 16) where
   -- what is seen of the calls that count is what is seen of them alone, and the others are refused
   traceless : (calls : List Call) (w : World) → WorldFits c w → Over keys w → AllBytes calls → AllAmong keys (counted (w .table .clock) calls)
       → (seenCounted (w .table .clock) calls (run call c w calls) ≡ run call c w (counted (w .table .clock) calls))
-      × OthersRefused (w .table .clock) calls (run call c w calls)
+      × UncountedRefused call c w (w .table .clock) calls
   traceless [] w f over ab aa = (refl, tt)
   traceless (q ∷ calls) w f over ab aa =
       by-cases (counts (w .table .clock) q)
@@ -225,9 +225,9 @@ module _ (c : Config) (w : World) (keys : List (List ℕ)) (calls : List Call) (
   fresh-clock : w .table .clock ≡ 0
   fresh-clock = rw (g .fresh)
 
-  fresh-traceless : (seenCounted 0 calls (run call c w calls) ≡ run call c w (counted 0 calls)) × OthersRefused 0 calls (run call c w calls)
+  fresh-traceless : (seenCounted 0 calls (run call c w calls) ≡ run call c w (counted 0 calls)) × UncountedRefused call c w 0 calls
   fresh-traceless =
-      subst (λ (t : ℕ). (seenCounted t calls (run call c w calls) ≡ run call c w (counted t calls)) × OthersRefused t calls (run call c w calls)) fresh-clock
+      subst (λ (t : ℕ). (seenCounted t calls (run call c w calls) ≡ run call c w (counted t calls)) × UncountedRefused call c w t calls) fresh-clock
       (traceless c keys (g .sixteen) calls w fresh-world fresh-over (g .bytes) (rw fresh-clock (g .over)))
 
 -- A MORNING OF PUSHES ON EACH KEY
@@ -258,6 +258,6 @@ sixteen-cross c w keys calls g k p s =
     let whole : take n l ≡ l = sym (append-nil (take n l)) ∙ ap (λ (r : List Seen). take n l ++ r) (sym (h .1)) ∙ take-append-drop n l in
     rw whole at (h .0)
 
-pub others-are-refused : OthersAreRefused call
-unfolding OthersAreRefused
-others-are-refused c w keys calls g = fresh-traceless c w keys calls g .1
+pub uncounted-are-refused : UncountedAreRefused call
+unfolding UncountedAreRefused
+uncounted-are-refused c w keys calls g = fresh-traceless c w keys calls g .1

@@ -1,13 +1,10 @@
 -- DEMAND 3 holds of the definition of a call, in both modes and for every size: first with other lanes' clocks going as they like (specs/Clocks.antt), and so as the
 -- mission has it. Assumes nothing.
 use Prim.Native.Nat.{ℕ}
-use mathlib.Core.Bool.{true}
-use mathlib.Core.Path.{_≡_, sym, _∙_, subst}
+use mathlib.Core.Path.{sym, _∙_, subst}
 use mathlib.Core.List.{List, [], _∷_, map, append-nil}
-use native.Mathlib.Omega.{arith}
 use lib.ListN.{length}
 use Rattle.block_state.specs.declared.Config.{Config}
-use Rattle.keys.specs.Keys.{keyOk}
 use Rattle.keys.proofs.Keys.{same-refl}
 use Rattle.block_handler.specs.Call.{World, Call, call}
 use Rattle.block_handler.proofs.Frame.{world-fits, key-within}

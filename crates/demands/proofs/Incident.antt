@@ -8,16 +8,13 @@ use native.Mathlib.Nat.{zero-add, zero-mul, one-mul}
 use native.Mathlib.Omega.{arith}
 use lib.ListN.{length, take, drop}
 use lib.Seq.{drop-drop, take-at, drop-at, length-take-le}
-use Rattle.pieces.specs.Memory.{patch, part, pieceOf, putPiece}
-use Rattle.pieces.specs.Memory as memory
-use Rattle.splicing.specs.Splice.{splicedLength, spliceOf, pieceAfter}
+use Rattle.pieces.specs.Memory.{patch, part}
+use Rattle.splicing.specs.Splice.{splicedLength, pieceAfter}
 use Rattle.splicing.specs.Splice as pieces
 use Rattle.splicing.specs.declared.Splice.the-variants.{Body}
 use Rattle.pieces.proofs.Memory.{drop-part}
 use Rattle.splicing.proofs.Splicing as splicing
-use Rattle.block_value.specs.Value.{sizeOf, made, largestPower, readOf}
-use Rattle.negotiation.specs.Negotiation.{requestBlock, negotiated, replyAt}
-use Rattle.negotiation.specs.Negotiation as negotiation
+use Rattle.block_value.specs.Value.{sizeOf}
 use Rattle.negotiation.specs.declared.MaybeBlock.the-variants.{Absent, Given}
 use Rattle.negotiation.specs.declared.Negotiated.the-variants.{Block}
 use Rattle.block_state.specs.declared.Config.{Config}
@@ -32,17 +29,7 @@ use Rattle.request_block2.proofs.Steps.{onward-absent}
 use Rattle.request_block1.proofs.Steps.{taken-more, taken-last, spliced-body, given-next}
 use Rattle.request_step.proofs.Steps.{request-given}
 use Rattle.pieces.proofs.Tests.{clash-of}
-use Rattle.block_state.specs.State as state
-use Rattle.request_block2.specs.Block2 as block2
-use Rattle.request_block1.specs.Block1 as block1
-use Rattle.request_step.specs.Step as step
-use Rattle.keys.specs.Keys as keys
-use Rattle.entries.specs.Entries as entries
-use Rattle.block_table.specs.Table as table
-use Rattle.places.specs.Places as places
 use Rattle.block_handler.specs.Call.{call}
-use Rattle.judge.specs.Limits as judge
-use Rattle.block_handler.specs.Call as h
 use Rattle.demands.specs.Demand3.{block, Demand3}
 use Rattle.demands.specs.Incident.{Carries, once, twice, TailKept, Story, StartsAfresh}
 use Rattle.demands.proofs.OwnStep.{room-agreed, held-after}

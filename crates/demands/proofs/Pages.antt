@@ -1,8 +1,8 @@
 -- A CHUNK SERVED IS THE PAGE'S. Assumes nothing.
-use Prim.Native.Nat.{ℕ, _+_, _-_, _*_, _≤_, _<_, min}
+use Prim.Native.Nat.{ℕ, _+_, _-_, _*_, _≤_, _<_}
 use mathlib.Core.Bool.{Bool, true, false, cond, _&&_, false≢true}
 use mathlib.Core.Path.{_≡_, refl, sym, ap, _∙_, subst}
-use mathlib.Core.Logic.{_≢_, _⊎_, inl, inr}
+use mathlib.Core.Logic.{_≢_}
 use mathlib.Core.List.{List, [], _∷_, _++_}
 use mathlib.Core.Option.{Option, none, some}
 use native.Mathlib.Omega.{arith}
@@ -16,7 +16,7 @@ use Rattle.pieces.proofs.Tests.{ands, by-cases, on-test, clash-of}
 use Rattle.block_value.specs.Value.{blockSize, blockStart}
 use Rattle.block_value.specs.declared.BlockValue.{BlockValue}
 use Rattle.negotiation.specs.Negotiation.{requestBlock, negotiated}
-use Rattle.negotiation.specs.Chunk.{chunkOf}
+use Rattle.negotiation.specs.Chunk.{chunkOf, chunkBlock}
 use Rattle.negotiation.specs.declared.MaybeBlock.{MaybeBlock}
 use Rattle.negotiation.specs.declared.MaybeBlock.the-variants.{Absent, Given}
 use Rattle.negotiation.specs.declared.Negotiated.{Negotiated}
@@ -32,7 +32,7 @@ use Rattle.block_state.specs.declared.BlockState.{BlockState}
 use Rattle.block_state.specs.declared.Part.{Part}
 use Rattle.block_state.specs.declared.Answer.{Answer}
 use Rattle.block_state.specs.declared.Answer.the-variants.{Continue, TooLarge, Handed, Pass, Served, Plain, Whole, First, Refused}
-use Rattle.block_state.specs.Message.{Request, Response, What, request, response, WhatBytes}
+use Rattle.block_state.specs.Message.{Request, Response, What, request, response}
 use Rattle.block_state.specs.State.{keptWhile, caching, recordedBlock, withRecorded}
 use Rattle.block_state.specs.Step.{Left, left, bytesFrom}
 use Rattle.request_block2.specs.Block2.{served, onward}
@@ -46,10 +46,10 @@ use Rattle.entries.specs.Entries.{free, inUse, holds, live, swept}
 use Rattle.entries.proofs.Entries.{holds-used, holds-new}
 use Rattle.block_table.specs.Table.{at}
 use Rattle.block_table.proofs.Row.{at-sweep, at-set}
-use Rattle.block_table.proofs.TableFits.{row, row-length, row-unique, fresh-fits}
+use Rattle.block_table.proofs.TableFits.{row-length, row-unique, fresh-fits}
 use Rattle.places.specs.Places.{place, opened}
 use Rattle.places.proofs.Places.{opened-own, opened-new, opened-key, place-holds, others}
-use Rattle.judge.specs.Limits.{configOk, memoriesOk}
+use Rattle.judge.specs.Limits.{memoriesOk}
 use Rattle.answers.specs.Parts.{partOf, servedHead, servedChunk}
 use Rattle.answers.proofs.Served.{served-shows}
 use Rattle.block_handler.specs.Call.{World, Call, Done, callAt, rowOf, call}
@@ -344,13 +344,13 @@ known-run c k (q ∷ calls) w p f ab known = known-run c k calls (call c w q .wo
 
 -- ---- the call that serves
 
--- a chunk has the num and the exponent that were asked
-chunk-names : (x : BlockValue) (n : ℕ) (y : BlockValue) (from to : ℕ) → chunkOf x n ≡ chunk.Bytes y from to → (y .num ≡ x .num) × (y .«size_exponent» ≡ x .«size_exponent»)
+-- a chunk's value is the document's
+chunk-value : (x : BlockValue) (n : ℕ) (y : BlockValue) (from to : ℕ) → chunkOf x n ≡ chunk.Bytes y from to → y ≡ chunkBlock x n
 unfolding chunkOf
-chunk-names x n y from to =
-    on-test (λ (ch : Chunk). ch ≡ chunk.Bytes y from to → (y .num ≡ x .num) × (y .«size_exponent» ≡ x .«size_exponent»)) (leb n (blockStart x))
+chunk-value x n y from to =
+    on-test (λ (ch : Chunk). ch ≡ chunk.Bytes y from to → y ≡ chunkBlock x n) (leb n (blockStart x))
     (λ _ e. let z : _≡_ {A = ℕ} 0 1 = cc in absurd (omega arith))
-    (λ _ e. let a : y .num ≡ x .num = cc in let b : y .«size_exponent» ≡ x .«size_exponent» = cc in (a, b))
+    (λ _ e. cc)
 
 module _ (m head payload : List ℕ) (u i : ℕ) (inside : i * u + u ≤ length m) (room : length (head ++ payload) ≤ u)
     (bytes : take (length (head ++ payload)) (pieceOf u i m) ≡ head ++ payload) where
@@ -399,14 +399,12 @@ served-page c w q p r block1 b head part f known er =
     ∙ served-shows (w .response) (away + s .cached .head) (s .cached .payload) (g .asked) b (g .from) (g .to) (g .bytes) (omega (arith, h .head, h .payload, h .room)) in
     let there : bytesIn (w .response) (away + s .cached .head) (s .cached .payload) ≡ h .page .payload =
     rw (h .head, h .payload) (payload-there (w .response) (h .page .head) (h .page .payload) (c .response) i inside (h .room) (h .bytes)) in
-    let bounds = chunk-names (g .asked) (s .cached .payload) b (g .from) (g .to) (g .bytes) in
     record {
       page = h .page;
       last = h .is;
       asked = g .asked;
       asks = g .asks;
-      num = bounds .0;
-      exponent = bounds .1;
+      value = chunk-value (g .asked) (s .cached .payload) b (g .from) (g .to) (g .bytes) ∙ ap (chunkBlock (g .asked)) (h .payload);
       itsHead = ap (λ (a : Answer). servedHead a (w .response)) e ∙ shows-head;
       itsChunk = ap (λ (a : Answer). servedChunk a (w .response)) e ∙ (rw (there, h .payload) at shows-part);
     }))

@@ -7,11 +7,10 @@ use native.Mathlib.Nat.{mul-div-cancel, eq-or-lt-of-le, lt-of-not-le}
 use native.Mathlib.Omega.{arith}
 use lib.Dec.{ltb, leb, eqb}
 use lib.Pow.{pow-add, pow-mono}
-use borrow.Author.Tests.{ltb-true, ltb-false, leb-true, leb-false, le-leb, lt-leb, eqb-true, lt-ltb, le-ltb, ne-eqb}
+use borrow.Author.Tests.{ltb-true, ltb-false, leb-true, leb-false, eqb-true}
 use Rattle.pieces.proofs.Tests.{by-cases, clash-of}
 use Rattle.block_value.specs.Value.{largestPower, exponentOf, made, sizeOf, blockSize, blockStart}
 use Rattle.block_value.specs.declared.BlockValue.{BlockValue}
-use Rattle.block_value.specs.declared.Made.the-variants as made-variants
 use Rattle.block_value.proofs.Laws.{size-is, size-least, size-most, exponent-size, made-zero, made-large, made-far, made-well}
 use Rattle.negotiation.specs.Negotiation.{negotiated, within, replyOf}
 use Rattle.negotiation.specs.declared.MaybeBlock.{MaybeBlock}

@@ -1,7 +1,7 @@
 -- Laws of runs: calls cut in two, calls that are not on a key, and what a run keeps. Assumes nothing.
 use Prim.Native.Nat.{ℕ, _≤_, max}
 use mathlib.Core.Bool.{true}
-use mathlib.Core.Path.{_≡_, refl, ap, subst, sym, _∙_}
+use mathlib.Core.Path.{_≡_, refl, ap}
 use mathlib.Core.List.{List, [], _∷_, _++_, nil≢cons, cons≢nil, head-eq-of-cons-eq, tail-eq-of-cons-eq}
 use native.Mathlib.Omega.{arith}
 use Rattle.pieces.proofs.Tests.{by-cases}
@@ -11,7 +11,7 @@ use Rattle.keys.specs.Keys.{same}
 use Rattle.places.specs.Places.{place, opened}
 use Rattle.block_handler.specs.Call.{World, Call, callAt, rowOf, call}
 use Rattle.block_handler.proofs.Frame.{WorldFits, call-fits, call-cases}
-use Rattle.demands.specs.Demand3.{Handler, Seen, run, after, callsOn, seenOn, All, AllBytes, Rising}
+use Rattle.demands.specs.Demand3.{Handler, run, after, callsOn, seenOn, All, AllBytes, Rising}
 use Rattle.demands.specs.Clocks.{OwnRising}
 
 -- ---- calls cut in two

@@ -1,11 +1,11 @@
 -- At most sixteen keys have sixteen entries: where all keys in use are among sixteen, each of them has a place. Assumes nothing.
 use Prim.Native.Nat.{ℕ, zero, suc, _≤_, _<_}
-use mathlib.Core.Bool.{Bool, true, false, cond, _||_, false≢true}
-use mathlib.Core.Path.{_≡_, refl, sym, _∙_, ap}
+use mathlib.Core.Bool.{true, false, cond, false≢true}
+use mathlib.Core.Path.{_≡_, sym, _∙_, ap}
 use mathlib.Core.Logic.{_≢_}
 use mathlib.Core.List.{List, [], _∷_}
 use native.Mathlib.Omega.{arith}
-use lib.ListN.{length, length-set, List·getD-eq-default}
+use lib.ListN.{length, List·getD-eq-default}
 use lib.Dec.{ltb}
 use borrow.Author.Tests.{ltb-true, ltb-false, not-false}
 use Rattle.pieces.proofs.Tests.{by-cases, on-test, clash-of, refute}
@@ -15,10 +15,10 @@ use Rattle.block_state.specs.Message.{What, request, response}
 use Rattle.keys.specs.Lists.{find}
 use Rattle.keys.specs.Keys.{same, keyOf}
 use Rattle.keys.proofs.Lists.{find-before}
-use Rattle.keys.proofs.Keys.{same-refl, same-eq}
+use Rattle.keys.proofs.Keys.{same-eq}
 use Rattle.entries.specs.declared.Entry.{Entry}
 use Rattle.entries.specs.Entries.{free, inUse, holds, live, swept, unused}
-use Rattle.entries.proofs.Entries.{holds-own, holds-used, holds-new, live-used, swept-live, swept-dead}
+use Rattle.entries.proofs.Entries.{holds-own}
 use Rattle.block_table.specs.Table.{at}
 use Rattle.block_table.proofs.Row.{Unique, at-sweep, at-set}
 use Rattle.block_table.proofs.TableFits.{row, row-length, row-unique}

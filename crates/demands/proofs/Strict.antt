@@ -1,23 +1,18 @@
 -- STRICT MODE SAYS NO. Assumes nothing.
-use Prim.Native.Nat.{ℕ, _+_, _*_, _%_, _≤_, _<_}
-use mathlib.Core.Bool.{Bool, true, false, cond, not, _&&_, _||_}
+use Prim.Native.Nat.{ℕ, _+_, _*_, _%_, _≤_}
+use mathlib.Core.Bool.{Bool, true, false, not, _&&_, _||_}
 use mathlib.Core.Path.{_≡_, refl, sym, _∙_, ap}
-use mathlib.Core.Logic.{_⊎_, inl, inr}
+use mathlib.Core.Logic.{inl, inr}
 use mathlib.Core.List.{List, [], _∷_}
 use mathlib.Core.Option.{Option, none, some}
 use native.Mathlib.Omega.{arith}
 use lib.ListN.{length}
 use lib.Dec.{ltb, eqb}
-use borrow.Author.Tests.{not-true, not-false, ltb-true, ltb-false, lt-ltb, eqb-true, eq-eqb, ne-eqb, le-ltb}
-use Rattle.pieces.specs.Memory as memory
-use Rattle.splicing.specs.Splice as splice
-use Rattle.negotiation.specs.Negotiation as negotiation
-use Rattle.request_block1.specs.Block1 as block1
-use Rattle.demands.specs.Cases.{AllSay}
-use Rattle.pieces.proofs.Tests.{ands, false-is-not, and-left, and-right, and-both, by-cases, on-test, clash-of, refute}
-use Rattle.block_value.specs.Value.{blockSize, blockStart, readOf, largestPower, made, sizeOf}
+use borrow.Author.Tests.{not-true, not-false, ltb-true, ltb-false, lt-ltb, eqb-true, eq-eqb, ne-eqb}
+use Rattle.pieces.proofs.Tests.{ands, false-is-not, and-left, and-right, by-cases, on-test, clash-of, refute}
+use Rattle.block_value.specs.Value.{blockSize, blockStart, readOf}
 use Rattle.block_value.specs.declared.BlockValue.{BlockValue}
-use Rattle.negotiation.specs.Negotiation.{requestBlock, negotiated}
+use Rattle.negotiation.specs.Negotiation.{requestBlock}
 use Rattle.negotiation.specs.Chunk.{chunkOf}
 use Rattle.negotiation.specs.declared.MaybeBlock.{MaybeBlock}
 use Rattle.negotiation.specs.declared.MaybeBlock.the-variants.{Absent, Given}
@@ -36,11 +31,11 @@ use Rattle.request_block1.specs.Block1.{badForm, notNext, block1Given}
 use Rattle.request_block1.proofs.Steps.{given-bad, given-not-next}
 use Rattle.request_step.specs.Step.{onNegotiated, stepRequest}
 use Rattle.request_step.proofs.Steps.{request-given}
-use Rattle.places.specs.Places.{place, opened}
+use Rattle.places.specs.Places.{opened}
 use Rattle.block_handler.specs.Call.{World, Call, Done, whatOk, callAt, rowOf, withinLimits, call}
 use Rattle.block_handler.proofs.Frame.{world-fits, key-within, call-cases}
 use Rattle.demands.specs.Touch.{RefusesTo}
-use Rattle.demands.specs.Strict.{tookBlock, assembledFor, RightlyTaken, BadlyFormed, Misplaced, PassesFive, StrictSaysNo, strictCases}
+use Rattle.demands.specs.Strict.{tookBlock, assembledFor, RightlyTaken, BadlyFormed, Misplaced, PassesFive, StrictSaysNo}
 use Rattle.demands.proofs.Touch.{refused-touches}
 
 -- ---- what the two tests say

@@ -1,5 +1,5 @@
--- SIXTEEN TRANSFERS CROSS. From a fresh table: any list of calls over at most sixteen keys, in any order. Take a key whose own calls are pushes as demand 3
--- has them, one after another, as many as you like: each push is answered Continue .., Handed with exactly its joined blocks. What the other keys'
+-- SIXTEEN TRANSFERS CROSS. From a fresh table: any calls in any order, so long as those that count are over at most sixteen keys. Take a key whose own calls are pushes
+-- as demand 3 has them, one after another, as many as you like: each push is answered Continue .., Handed with exactly its joined blocks. What the other keys'
 -- calls are does not matter; if each of the sixteen keys sends pushes, each of the sixteen is served so. In both modes.
 use Prim.Native.Nat.{ℕ, _≤_}
 use mathlib.Core.Bool.{Bool, true, false, cond, _&&_, _||_}
@@ -12,7 +12,7 @@ use Rattle.block_state.specs.declared.Answer.the-variants.{Refused}
 use Rattle.keys.specs.Keys.{same, keyOk}
 use Rattle.block_table.specs.Table.{freshTable}
 use Rattle.judge.specs.Limits.{configOk, memoriesOk}
-use Rattle.block_handler.specs.Call.{World, Call, whatOk}
+use Rattle.block_handler.specs.Call.{World, Call, done, whatOk}
 use Rattle.demands.specs.Demand3.{Handler, Seen, run, callsOn, seenOn, Sent, callOn, joined, All, AllBytes, Blocks, HandsOn}
 
 -- ---- Which calls count
@@ -30,18 +30,18 @@ abbrev pub counted : ℕ → List Call → List Call
 counted t [] = []
 counted t (q ∷ calls) = cond (counts t q) (q ∷ counted (q .time) calls) (counted t calls)
 
--- What was seen of the calls that count ..
+-- What was seen of the calls that count.
 abbrev pub seenCounted : ℕ → List Call → List Seen → List Seen
 seenCounted t [] seen = []
 seenCounted t (q ∷ calls) [] = []
 seenCounted t (q ∷ calls) (s ∷ seen) = cond (counts t q) (s ∷ seenCounted (q .time) calls seen) (seenCounted t calls seen)
 
--- .. and of the others: refusal 1 if the call is not in form, else 2.
-abbrev pub OthersRefused : ℕ → List Call → List Seen → Type 0
-OthersRefused t [] seen = Unit {0}
-OthersRefused t (q ∷ calls) [] = ⊥
-OthersRefused t (q ∷ calls) (s ∷ seen) =
-    cond (counts t q) (OthersRefused (q .time) calls seen) ((s .answer ≡ Refused (cond (inForm q) 2 1)) × OthersRefused t calls seen)
+-- The calls that do not count are refused, with 1 if they are not in form and else with 2, and change nothing.
+abbrev pub UncountedRefused : Handler → Config → World → ℕ → List Call → Type 0
+UncountedRefused h c w t [] = Unit {0}
+UncountedRefused h c w t (q ∷ calls) =
+    cond (counts t q) (UncountedRefused h c (h c w q .world) (q .time) calls)
+    ((h c w q ≡ done w (Refused (cond (inForm q) 2 1))) × UncountedRefused h c w t calls)
 
 -- ---- The run
 
@@ -94,21 +94,21 @@ HandsAll [] seen = seen ≡ []
 HandsAll (p ∷ rest) seen =
     HandsOn (joined (p .first) (p .rest)) (take (length (p .first ∷ p .rest)) seen) × HandsAll rest (drop (length (p .first ∷ p .rest)) seen)
 
--- A morning of pushes on each key.
+-- A morning of pushes on a key, and so on each.
 unfoldable pub MorningsCross : Handler → Type 0
 MorningsCross h =
     (c : Config) (w : World) (keys : List (List ℕ)) (calls : List Call) → FromFresh c w keys calls
     → (k : List ℕ) (pushes : List Transfer) → Sends c k calls pushes
     → HandsAll pushes (seenOn k (seenCounted 0 calls (run h c w calls)))
 
--- One push on each key.
+-- One push on a key: on each of the sixteen at once, since the calls are fixed before the key.
 unfoldable pub SixteenCross : Handler → Type 0
 SixteenCross h =
     (c : Config) (w : World) (keys : List (List ℕ)) (calls : List Call) → FromFresh c w keys calls
     → (k : List ℕ) (p : Transfer) → Sends c k calls (p ∷ [])
     → HandsOn (joined (p .first) (p .rest)) (seenOn k (seenCounted 0 calls (run h c w calls)))
 
--- And the calls that do not count are refused with 1 or 2, as said.
-unfoldable pub OthersAreRefused : Handler → Type 0
-OthersAreRefused h =
-    (c : Config) (w : World) (keys : List (List ℕ)) (calls : List Call) → FromFresh c w keys calls → OthersRefused 0 calls (run h c w calls)
+-- And the calls that do not count are refused, and change nothing.
+unfoldable pub UncountedAreRefused : Handler → Type 0
+UncountedAreRefused h =
+    (c : Config) (w : World) (keys : List (List ℕ)) (calls : List Call) → FromFresh c w keys calls → UncountedRefused h c w 0 calls

@@ -145,7 +145,8 @@ pub record Blocks (c : Config) (x : ℕ) (first : Sent) (rest : List Sent) : Typ
   pub full : Each (λ j more r. Fills more (length (r .payload)) (sizeOf x)) 0 first rest
   -- "None carries Block2": none, or one that is unreadable and so counts as absent.
   pub alone : Each (λ j more r. requestBlock (r .block2) ≡ Absent) 0 first rest
-  -- "Each message leaves room for that size". Document 01: ""leaves room" means bare + 12 + size <= T".
+  -- "Each message leaves room for that size". Document 01: ""leaves room" means bare + 12 + size <= T"; bare is "the length of the message encoded with
+  -- its payload taken out".
   pub room : Each (λ j more r. r .bare + 12 + sizeOf x ≤ c .limit) 0 first rest
   -- "The body fits its piece".
   pub fits : length (joined first rest) ≤ c .upload

@@ -1,6 +1,6 @@
--- A CHUNK SERVED IS THE PAGE'S. In any run from a fresh table: where a request is answered Served, the head that is shown is the head, and the chunk that is shown is
--- bytes ks up to min(ks + s, n) of the payload, of the response that First stored last for that key; k and s are the num and size that the request asked for, and n is
--- the length of that payload. Whatever calls stand before it, on any keys.
+-- IF A CHUNK IS SERVED, IT IS THE PAGE'S. In any run from a fresh table: where a request is answered Served, the head that is shown is the head, and the chunk that is
+-- shown is bytes ks up to min(ks + s, n) of the payload, of the response that First stored last for that key; k and s are the num and size that the request's Block2 asks
+-- for, n is the length of that payload, and "more" is said exactly if more follows. Whatever calls stand before it, on any keys.
 use Prim.Native.Nat.{ℕ, _+_, _-_, min}
 use mathlib.Core.Bool.{Bool, true, false, cond}
 use mathlib.Core.Path.{_≡_}
@@ -11,6 +11,7 @@ use Rattle.pieces.specs.Memory.{part}
 use Rattle.block_value.specs.Value.{blockSize, blockStart}
 use Rattle.block_value.specs.declared.BlockValue.{BlockValue}
 use Rattle.negotiation.specs.Negotiation.{requestBlock}
+use Rattle.negotiation.specs.Chunk.{chunkBlock}
 use Rattle.negotiation.specs.declared.MaybeBlock.{MaybeBlock}
 use Rattle.negotiation.specs.declared.MaybeBlock.the-variants.{Given}
 use Rattle.block_state.specs.declared.Config.{Config}
@@ -60,11 +61,10 @@ lastStored h c w k old (q ∷ calls) = lastStored h c (h c w q .world) k (noted 
 pub record ShowsPage (r : Request) (b : BlockValue) (stored : Option Page) (head chunk : List ℕ) : Type 0 where
   pub page : Page
   pub last : stored ≡ some page
-  -- The request's Block2 value is `asked`, and the answer's has its num and exponent.
+  -- The request's Block2 value is `asked`. The answer's is document 01's of that chunk: "more exactly if (k+1)s < n; num and exponent are those asked".
   pub asked : BlockValue
   pub asks : requestBlock (r .block2) ≡ Given asked
-  pub num : b .num ≡ asked .num
-  pub exponent : b .«size_exponent» ≡ asked .«size_exponent»
+  pub value : b ≡ chunkBlock asked (length (page .payload))
   pub itsHead : head ≡ page .head
   pub itsChunk : chunk ≡ part (page .payload) (blockStart asked) (min (blockStart asked + blockSize asked) (length (page .payload)) - blockStart asked)
 

@@ -93,7 +93,7 @@ pub record CanBeGiven : Type 0 where
   -- One block alone, and two blocks with those calls between them, in either mode.
   pub one : (strict : Bool) → Granted (config strict) fresh key 0 (sent 5 [] (7 ∷ [])) [] []
   pub two : (strict : Bool) → Granted (config strict) fresh key 0 firstBlock (lastBlock ∷ []) later
-  -- The calls between them are all kinds: one is taken, one gets refusal 1, one is cached, and one gets refusal 9, or in plain mode 7.
+  -- The calls between them are of four kinds: one is taken, one gets refusal 1, one is cached, and one gets refusal 9, or in plain mode 7.
   pub between : (strict : Bool)
       → kinds (run call (config strict) fresh (callOn key firstBlock ∷ later)) ≡ continue ∷ continue ∷ refusal ∷ first ∷ refusal ∷ handed ∷ []
   pub refusals : (strict : Bool)
@@ -124,14 +124,14 @@ HandsAtZero strict h =
     → requestBlock (s .message .block1) ≡ Given (block 0 more x)
     → said (h c w (callOn k s) .answer) .kind ≡ handed
 
-abbrev pub Broken : (Bool → Handler → Type 0) → Type 0
-Broken Sham = (strict : Bool) (h : Handler) → Sham strict h → Demand3 h → ⊥
+abbrev pub BreaksDemand3 : (Bool → Handler → Type 0) → Type 0
+BreaksDemand3 Sham = (strict : Bool) (h : Handler) → Sham strict h → Demand3 h → ⊥
 
 pub record Excluded : Type 0 where
-  pub refusesAll : Broken RefusesAll
-  pub passesAll : Broken PassesAll
-  pub storesNothing : Broken StoresNothing
-  pub handsAtZero : Broken HandsAtZero
+  pub refusesAll : BreaksDemand3 RefusesAll
+  pub passesAll : BreaksDemand3 PassesAll
+  pub storesNothing : BreaksDemand3 StoresNothing
+  pub handsAtZero : BreaksDemand3 HandsAtZero
 
 -- There are such handlers. The third does all that it should but store an upload, and the fourth stores as it should.
 abbrev pub refuser : Handler

@@ -1,5 +1,6 @@
 -- STRICT MODE SAYS NO. Whatever the table, the memories and the call: in strict mode no block is taken unless it is well formed and, but for block 0,
--- the next; and what is not is refused, with 10 before 9, changing only the touch. Also a table of cases, beside document 01's cases 1 to 12.
+-- the next. And a block that passes checks 1 to 5 and is not gets 10 or 9, 10 before 9, and changes nothing but the touch. Also a table of cases, beside document
+-- 01's cases 1 to 12.
 use Prim.Native.Nat.{ℕ, _≤_, _<_}
 use mathlib.Core.Bool.{Bool, true, false}
 use mathlib.Core.Path.{_≡_}
@@ -64,7 +65,7 @@ BadlyFormed b p = (b .«size_exponent» ≡ 7) ⊎ (blockSize b < p) ⊎ ((b .mo
 abbrev pub Misplaced : Assembled → BlockValue → Type 0
 Misplaced l b = (b .num ≡ 0 → ⊥) × ((blockStart b ≡ l .len) × (b .«size_exponent» ≡ l .exponent) → ⊥)
 
--- A request with Block1 value b that passes checks 1 to 5: within the limits, not before the clock, with a place, and some block is agreed.
+-- A request with Block1 value b that passes checks 1 to 5: within the limits (1), not before the clock (2), with a place (3), and a block is agreed on (4 and 5).
 pub record PassesFive (c : Config) (w : World) (q : Call) (r : Request) (b : BlockValue) : Type 0 where
   pub asks : q .what ≡ request r
   pub given : requestBlock (r .block1) ≡ Given b
@@ -86,7 +87,7 @@ pub record StrictSaysNo (h : Handler) : Type 0 where
   pub nine : (c : Config) (w : World) (q : Call) (r : Request) (b : BlockValue) → c .strict ≡ true → PassesFive c w q r b
       → (BadlyFormed b (length (r .payload)) → ⊥) → Misplaced (assembledFor c w q) b → RefusesTo 9 h c w q
 
--- ---- Cases, as rows of a table of their own (T 1152, U 64, bare 20)
+-- ---- Cases, as rows of a table of their own (T 1152, U 64, bare 20). The block value of an answer is the reply's: its "more" is as negotiated, not as sent.
 
 -- 32 bytes are assembled, and the kept exponent is 0 (size 16).
 abbrev pub kept : BlockState

@@ -19,7 +19,7 @@ touched c w q =
       response = w .response;
     }
 
--- The call gets this refusal, and changes only the touch.
+-- The call gets this refusal, and changes nothing but the touch.
 abbrev pub RefusesTo : ℕ → Handler → Config → World → Call → Type 0
 RefusesTo n h c w q = (h c w q .answer ≡ Refused n) × (h c w q .world ≡ touched c w q)
 

@@ -1,7 +1,7 @@
 -- THE LAST BLOCK SENT TWICE. A push was handed on, as demand 3 has it; then its last block comes again, with any calls for other keys between,
--- sooner than one lifetime. In strict mode a push of two blocks or more gets refusal 9 and only the touch changes; one of a single block is handed
--- on again. In plain mode WHAT IS HANDED ON IS NOT WHAT WAS SENT: zeros in place of all blocks but the last, or refusal 6 where the body is past
--- 16,384 bytes.
+-- sooner than one lifetime. In strict mode a push of two blocks or more gets refusal 9 and nothing but the touch changes; one of a single block is handed
+-- on again. In plain mode, for two blocks or more, WHAT IS HANDED ON IS NOT WHAT WAS SENT: zeros in place of all blocks but the last, or refusal 6 where n times
+-- the size is above 16,384.
 use Prim.Native.Nat.{ℕ, _+_, _*_, _≤_, _<_}
 use mathlib.Core.Bool.{true, false}
 use mathlib.Core.Path.{_≡_}
@@ -35,7 +35,7 @@ pub record SentAgain (c : Config) (w : World) (k : List ℕ) (x : ℕ) (first : 
 -- ---- What is promised
 
 pub record Twice (h : Handler) : Type 0 where
-  -- Strict, two blocks or more: refusal 9, only the touch.
+  -- Strict, two blocks or more: refusal 9, nothing but the touch.
   pub strictMany : (c : Config) (w : World) (k : List ℕ) (x : ℕ) (first second : Sent) (rest : List Sent) (later : List Call) (again : Sent)
       → c .strict ≡ true → SentAgain c w k x first (second ∷ rest) later again
       → RefusesTo 9 h c (after h c w (callOn k first ∷ later)) (callOn k again)
@@ -47,7 +47,7 @@ pub record Twice (h : Handler) : Type 0 where
   pub plainZeros : (c : Config) (w : World) (k : List ℕ) (x : ℕ) (first : Sent) (rest : List Sent) (later : List Call) (again : Sent)
       → c .strict ≡ false → SentAgain c w k x first rest later again → length (first ∷ rest) * sizeOf x ≤ 16384
       → HandsTo (replicate (length rest * sizeOf x) 0 ++ lastOf first rest .message .payload) h c (after h c w (callOn k first ∷ later)) (callOn k again)
-  -- Plain, more than that: refusal 6, only the touch.
+  -- Plain, more than that: refusal 6, nothing but the touch.
   pub plainFar : (c : Config) (w : World) (k : List ℕ) (x : ℕ) (first : Sent) (rest : List Sent) (later : List Call) (again : Sent)
       → c .strict ≡ false → SentAgain c w k x first rest later again → 16384 < length (first ∷ rest) * sizeOf x
       → RefusesTo 6 h c (after h c w (callOn k first ∷ later)) (callOn k again)

@@ -4,16 +4,13 @@ use mathlib.Core.Path.{_≡_, refl, sym, ap, ap₂, _∙_}
 use mathlib.Core.List.{List, [], _∷_, map}
 use Rattle.pieces.proofs.Tests.{by-cases}
 use Rattle.block_state.specs.declared.Config.{Config}
-use Rattle.block_state.specs.declared.Answer.{Answer}
-use Rattle.block_state.specs.Answers.{Kind, said}
+use Rattle.block_state.specs.Answers.{said}
 use Rattle.keys.specs.Keys.{same}
 use Rattle.block_handler.specs.Call.{World, Call, call}
-use Rattle.replies.specs.declared.Reply.{Reply}
 use Rattle.replies.specs.Reply.{replyOf, kindNumber}
-use Rattle.replies.specs.Found.{foundIn, bytesAt, bodyIn}
 use Rattle.replies.proofs.Shown.{body-bytes}
 use Rattle.handler_c.specs.Contract.{Replies}
-use Rattle.demands.specs.Demand3.{Seen, seen, run, seenOn, payloadOf, Sent, callOn, joined, HandsOn, Demand3}
+use Rattle.demands.specs.Demand3.{Seen, seen, run, seenOn, payloadOf, callOn, joined, HandsOn, Demand3}
 use Rattle.demands.proofs.Demand3.{demand3}
 use Rattle.demands_c.specs.Exports.{Returned, RanInC, SeenInC, seenInC, seenOfC, seenOnInC, HandsOnInC, Demand3InC, DeterminedInC}
 
