@@ -28,7 +28,8 @@ use Rattle.block_handler.proofs.Frame.{WorldFits, fits-limits, call-fits, call-
 use Rattle.demands.specs.Demand3.{Seen, seen, run, after, callsOn, seenOn, Sent, callOn, joined, Rising, All, AllBytes, entryAt}
 use Rattle.demands.specs.Clocks.{OwnRising}
 use Rattle.demands.specs.Twice.{lastOf}
-use Rattle.demands.specs.Crossing.{inForm, counts, counted, seenCounted, UncountedRefused, among, AllAmong, FromFresh, Transfer, AllProper, callsOf, HandsAll, MorningsCross, SixteenCross, UncountedAreRefused}
+use Rattle.demands.specs.Crossing.{inForm, counts, counted, seenCounted, UncountedRefused, among, AllAmong, FromFresh, Transfer, AllProper, callsOf, HandsAll}
+use Rattle.demands.specs.Crossing.{MorningsCross, SixteenCross, UncountedAreRefused}
 use Rattle.demands.proofs.Runs.{all-front, all-behind, seen-cut, none-seen, Cut, cut, rising-cut, rising-own, after-fits, after-clock}
 use Rattle.demands.proofs.Held.{Held}
 use Rattle.demands.proofs.Push.{Pushed, ready-first, pass, push-from, each-block}

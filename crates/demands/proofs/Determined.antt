@@ -3,8 +3,8 @@
 --
 -- Both calls, `intercept_request` and `intercept_response`, ensure Meant of their results: `call-determined`. The steps ensure the same of a
 -- state, a piece and an answer: `step-determined`. `extending_splice` ensures an equation of its answer and one of the piece by that answer:
--- `splice-determined`. Every other public function of the handler but `request_change` and `response_change` (docs/PROMISES.md, "One result") ensures an equation of its result, r ≡ .. or now r ≡ .., or of the one memory that it
--- changes, now (mem .exit) ≡ .. (with a bound beside it in places): `one-result`.
+-- `splice-determined`. Every other public function of the handler but `request_change` and `response_change` (docs/PROMISES.md, "One result") ensures an equation
+-- of its result, r ≡ .. or now r ≡ .., or of the one memory that it changes, now (mem .exit) ≡ .. (with a bound beside it in places): `one-result`.
 use mathlib.Core.Path.{_≡_, sym, ap, _∙_}
 use mathlib.Core.List.{List}
 use Prim.Native.Nat.{ℕ}

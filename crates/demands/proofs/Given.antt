@@ -179,7 +179,13 @@ own strict x first rest calls g = record { entry = g .entry; nothing = g .nothin
 passes-five : PassesFive (config true) fresh (callOn key bothFaults) (bothFaults .message) (block 1 true 0)
 unfolding calls
 passes-five =
-    record { asks = refl; given = refl; limits = refl; sixteen = refl; clock = omega arith; placed = omega arith; reply = block 1 false 0; agreed = refl }
+    record {
+      asks = refl;
+      given = refl;
+      placed = record { limits = refl; sixteen = refl; clock = omega arith; place = omega arith };
+      reply = block 1 false 0;
+      agreed = refl;
+    }
 
 serves-it : (strict : Bool) → said (asked strict .answer) .kind ≡ served
 unfolding calls

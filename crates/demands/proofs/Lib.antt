@@ -16,4 +16,5 @@ pub mod Crossing
 pub mod Strict
 pub mod Pairing
 pub mod Pages
+pub mod Agreed
 pub mod Given

@@ -161,7 +161,9 @@ module _ (s : BlockState) (away : ℕ) (block2 : MaybeBlock) where
 
 from-request : (c : Config) (home away : ℕ) (s : BlockState) (u : List ℕ) (r : Request) → From s away (requestBlock (r .block2)) (stepRequest c home away s u r .answer)
 unfolding stepRequest
-from-request c home away s u r = from-negotiated s away (requestBlock (r .block2)) c home u (r .payload) (requestBlock (r .block1)) (negotiated (requestBlock (r .block1)) (r .bare) (length (r .payload)) (c .limit))
+from-request c home away s u r =
+    from-negotiated s away (requestBlock (r .block2)) c home u (r .payload) (requestBlock (r .block1))
+    (negotiated (requestBlock (r .block1)) (r .bare) (length (r .payload)) (c .limit))
 
 -- ---- a response's step: nothing is stored, or First is answered
 
@@ -345,7 +347,7 @@ known-run c k (q ∷ calls) w p f ab known = known-run c k calls (call c w q .wo
 -- ---- the call that serves
 
 -- a chunk's value is the document's
-chunk-value : (x : BlockValue) (n : ℕ) (y : BlockValue) (from to : ℕ) → chunkOf x n ≡ chunk.Bytes y from to → y ≡ chunkBlock x n
+pub chunk-value : (x : BlockValue) (n : ℕ) (y : BlockValue) (from to : ℕ) → chunkOf x n ≡ chunk.Bytes y from to → y ≡ chunkBlock x n
 unfolding chunkOf
 chunk-value x n y from to =
     on-test (λ (ch : Chunk). ch ≡ chunk.Bytes y from to → y ≡ chunkBlock x n) (leb n (blockStart x))

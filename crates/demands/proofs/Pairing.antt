@@ -18,7 +18,7 @@ use Rattle.negotiation.specs.declared.MaybeBlock.the-variants.{Absent, Given}
 use Rattle.negotiation.specs.declared.Negotiated.{Negotiated}
 use Rattle.negotiation.specs.declared.Negotiated.the-variants.{NoBlock, Block, Refused}
 use Rattle.negotiation.proofs.Laws.{reply-none, reply-made, no-room, with-room, absent-fits, absent-large, given-at}
-use Rattle.demands.specs.Pairing.{roomOf, granted, numFor, Needed, Unmakeable, Pairing}
+use Rattle.demands.specs.Pairing.{roomOf, granted, numFor, moreFor, Needed, Unmakeable, Pairing}
 
 -- ---- the largest power of two
 
@@ -111,16 +111,17 @@ module _ (b : MaybeBlock) (bare p t : ℕ) where
   data Out : Negotiated → Type 0 where
     four : t < bare + 12 → Out (Refused 4)
     none : bare + 12 ≤ t → (Needed b p m → ⊥) → Out NoBlock
-    answered : bare + 12 ≤ t → Needed b p m → (more : Bool) (y : Negotiated) → Came (numFor b g) more g y → Out y
+    answered : bare + 12 ≤ t → Needed b p m → (y : Negotiated) → Came (numFor b g) (moreFor b p g) g y → Out y
 
-came-given : (b : BlockValue) (p m : ℕ) → (more : Bool) × Came (blockStart b / min (blockSize b) m) more (min (blockSize b) m) (within (Given b) p m)
+came-given : (b : BlockValue) (p m : ℕ)
+    → Came (blockStart b / min (blockSize b) m) (ltb (blockStart b + min (blockSize b) m) p) (min (blockSize b) m) (within (Given b) p m)
 came-given b p m =
     let g : ℕ = min (blockSize b) m in
     by-cases (eqb g 0)
-    (λ y. let e : g ≡ 0 = eqb-true g 0 y in (true, rw (given-at (Given b) p m b refl, reply-none (blockStart b) g p e) (refused (inl e))))
+    (λ y. let e : g ≡ 0 = eqb-true g 0 y in rw (given-at (Given b) p m b refl, reply-none (blockStart b) g p e) (refused (inl e)))
     (λ z.
     let nz : g ≡ 0 → ⊥ = λ e. zero-not z e in
-    (ltb (blockStart b + g) p, rw (given-at (Given b) p m b refl, reply-made (blockStart b) g p nz) (came (blockStart b / g) (ltb (blockStart b + g) p) g)))
+    rw (given-at (Given b) p m b refl, reply-made (blockStart b) g p nz) (came (blockStart b / g) (ltb (blockStart b + g) p) g))
   where
     zero-not : {g : ℕ} → eqb g 0 ≡ false → g ≡ 0 → ⊥
     zero-not z e = let w : eqb 0 0 ≡ false = rw e at z in absurd (clash-of true refl w)
@@ -137,8 +138,8 @@ out b bare p t =
         (λ y. let l = ltb-true p (roomOf bare t) y in rw (absent-fits Absent p (roomOf bare t) refl l) (none h (λ need. omega arith)))
         (λ n.
         let l = ltb-false p (roomOf bare t) n in
-        rw (absent-large Absent p (roomOf bare t) refl l) (answered h l true _ (came 0 true (roomOf bare t))))
-    rest (Given b) h = let c = came-given b p (roomOf bare t) in answered h tt (c .0) _ (c .1)
+        rw (absent-large Absent p (roomOf bare t) refl l) (answered h l _ (came 0 true (roomOf bare t))))
+    rest (Given b) h = answered h tt _ (came-given b p (roomOf bare t))
 
 -- ---- the laws
 
@@ -167,43 +168,46 @@ module _ (b : MaybeBlock) (bare p t : ℕ) where
   four-only : (y : Negotiated) → Out b bare p t y → y ≡ Refused 4 → t < bare + 12
   four-only y (four h) e = h
   four-only y (none h n) e = none-is-not 4 e
-  four-only y (answered h n more _ (refused u)) e = absurd (five-is-not-four e)
-  four-only y (answered h n more _ (block l m o)) e = block-is-not _ 4 e
+  four-only y (answered h n _ (refused u)) e = absurd (five-is-not-four e)
+  four-only y (answered h n _ (block l m o)) e = block-is-not _ 4 e
 
   five-when : bare + 12 ≤ t → Needed b p room → Unmakeable b room → (y : Negotiated) → Out b bare p t y → y ≡ Refused 5
   five-when h need u y (four l) = absurd (omega arith)
   five-when h need u y (none l n) = absurd (n need)
-  five-when h need u y (answered l n more _ (refused v)) = refl
-  five-when h need u y (answered l n more _ (block a c d)) = absurd (⊎-elim (λ (e : gr ≡ 0). omega arith) (⊎-elim (λ (e : 4096 ≤ gr). omega arith) (λ (e : 65535 < numFor b gr). omega arith)) u)
+  five-when h need u y (answered l n _ (refused v)) = refl
+  five-when h need u y (answered l n _ (block a c d)) =
+      absurd (⊎-elim (λ (e : gr ≡ 0). omega arith) (⊎-elim (λ (e : 4096 ≤ gr). omega arith) (λ (e : 65535 < numFor b gr). omega arith)) u)
 
   five-only : (y : Negotiated) → Out b bare p t y → y ≡ Refused 5 → Unmakeable b room
   five-only y (four h) e = absurd (five-is-not-four (sym e))
   five-only y (none h n) e = none-is-not 5 e
-  five-only y (answered h n more _ (refused u)) e = u
-  five-only y (answered h n more _ (block l m o)) e = block-is-not _ 5 e
+  five-only y (answered h n _ (refused u)) e = u
+  five-only y (answered h n _ (block l m o)) e = block-is-not _ 5 e
 
   made-when : bare + 12 ≤ t → Needed b p room → (Unmakeable b room → ⊥) → (y : Negotiated) → Out b bare p t y → (r : BlockValue) × (y ≡ Block r)
   made-when h need u y (four l) = absurd (omega arith)
   made-when h need u y (none l n) = absurd (n need)
-  made-when h need u y (answered l n more _ (refused v)) = absurd (u v)
-  made-when h need u y (answered l n more _ (block a c d)) = (_, refl)
+  made-when h need u y (answered l n _ (refused v)) = absurd (u v)
+  made-when h need u y (answered l n _ (block a c d)) = (_, refl)
 
   -- a block that comes out
   record Comes (r : BlockValue) : Type 0 where
     least : 1 ≤ gr
     most : gr < 4096
     num : r .num ≡ numFor b gr
+    more : r .more ≡ moreFor b p gr
     exponent : r .«size_exponent» ≡ exponentOf gr
     room-left : bare + 12 ≤ t
 
   comes : (r : BlockValue) (y : Negotiated) → Out b bare p t y → y ≡ Block r → Comes r
   comes r y (four l) e = refused-is-no-block r 4 e
   comes r y (none l n) e = none-is-no-block r e
-  comes r y (answered l n more _ (refused v)) e = refused-is-no-block r 5 e
-  comes r y (answered l n more _ (block a c d)) e =
+  comes r y (answered l n _ (refused v)) e = refused-is-no-block r 5 e
+  comes r y (answered l n _ (block a c d)) e =
       let num : r .num ≡ numFor b gr = cc in
+      let more : r .more ≡ moreFor b p gr = cc in
       let exponent : r .«size_exponent» ≡ exponentOf gr = cc in
-      record { least = a; most = c; num = num; exponent = exponent; room-left = l }
+      record { least = a; most = c; num = num; more = more; exponent = exponent; room-left = l }
 
 granted-room : (b : MaybeBlock) (m : ℕ) → (granted b m ≤ m) × (16 ≤ m → 16 ≤ granted b m) × (m < 16 → granted b m ≡ m)
 granted-room Absent m = (omega arith, λ h. h, λ h. refl)
@@ -218,7 +222,7 @@ pairing =
       five = λ b bare p t h need u. five-when b bare p t h need u _ (out b bare p t);
       fiveOnly = λ b bare p t e. five-only b bare p t _ (out b bare p t) e;
       made = λ b bare p t h need u. made-when b bare p t h need u _ (out b bare p t);
-      num = λ b bare p t r e. comes b bare p t r _ (out b bare p t) e .num;
+      value = λ b bare p t r e. let k = comes b bare p t r _ (out b bare p t) e in (k .num, k .more);
       size = λ b bare p t r e h.
           let k = comes b bare p t r _ (out b bare p t) e in
           let s = size-large (granted b (roomOf bare t)) (k .least) (k .most) (granted-room b (roomOf bare t) .1 h) in

@@ -38,7 +38,8 @@ use Rattle.judge.specs.Limits.{configOk}
 use Rattle.answers.specs.Parts.{partOf}
 use Rattle.block_handler.specs.Call.{World, Call, whatOk, call}
 use Rattle.block_handler.proofs.Frame.{WorldFits, Took, request-took, call-fits}
-use Rattle.demands.specs.Demand3.{Seen, seen, run, after, callsOn, seenOn, Sent, callOn, block, Each, Fills, joined, Prompt, AllBytes, entryAt, HasLive, HasFree, NothingInPlain, Blocks, HandsOn}
+use Rattle.demands.specs.Demand3.{Seen, seen, run, after, callsOn, seenOn, Sent, callOn, block, Each, Fills, joined, Prompt, AllBytes, entryAt}
+use Rattle.demands.specs.Demand3.{HasLive, HasFree, NothingInPlain, Blocks, HandsOn}
 use Rattle.demands.specs.Clocks.{OwnRising}
 use Rattle.demands.specs.Touch.{HandsTo}
 use Rattle.demands.specs.Twice.{lastOf}

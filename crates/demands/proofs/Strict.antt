@@ -9,7 +9,7 @@ use native.Mathlib.Omega.{arith}
 use lib.ListN.{length}
 use lib.Dec.{ltb, eqb}
 use borrow.Author.Tests.{not-true, not-false, ltb-true, ltb-false, lt-ltb, eqb-true, eq-eqb, ne-eqb}
-use Rattle.pieces.proofs.Tests.{ands, false-is-not, and-left, and-right, by-cases, on-test, clash-of, refute}
+use Rattle.pieces.proofs.Tests.{false-is-not, and-left, and-right, by-cases, on-test, clash-of, refute}
 use Rattle.block_value.specs.Value.{blockSize, blockStart, readOf}
 use Rattle.block_value.specs.declared.BlockValue.{BlockValue}
 use Rattle.negotiation.specs.Negotiation.{requestBlock}
@@ -32,8 +32,8 @@ use Rattle.request_block1.proofs.Steps.{given-bad, given-not-next}
 use Rattle.request_step.specs.Step.{onNegotiated, stepRequest}
 use Rattle.request_step.proofs.Steps.{request-given}
 use Rattle.places.specs.Places.{opened}
-use Rattle.block_handler.specs.Call.{World, Call, Done, whatOk, callAt, rowOf, withinLimits, call}
-use Rattle.block_handler.proofs.Frame.{world-fits, key-within, call-cases}
+use Rattle.block_handler.specs.Call.{World, Call, Done, callAt, rowOf, call}
+use Rattle.block_handler.proofs.Frame.{call-cases}
 use Rattle.demands.specs.Touch.{RefusesTo}
 use Rattle.demands.specs.Strict.{tookBlock, assembledFor, RightlyTaken, BadlyFormed, Misplaced, PassesFive, StrictSaysNo}
 use Rattle.demands.proofs.Touch.{refused-touches}
@@ -172,16 +172,12 @@ taken-rightly c w q r strict e =
 -- ---- a block that is refused
 
 module _ (c : Config) (w : World) (q : Call) (r : Request) (b : BlockValue) (strict : c .strict ≡ true) (g : PassesFive c w q r b) where
-  ok : whatOk (request r) ≡ true
-  unfolding withinLimits
-  ok = rw (← (g .asks)) (let h = g .limits in search ands)
-
   refuses : (n : ℕ)
       → ((home away : ℕ) (s : BlockState) (u : List ℕ) → s ≡ opened (q .key) (rowOf c w q) .state
       → block1Given c home away s u (requestBlock (r .block2)) (r .payload) b (g .reply) ≡ left s u (Refused n))
       → RefusesTo n call c w q
   refuses n step =
-      refused-touches c w q (world-fits c w q (g .limits) (g .sixteen)) (key-within c w q (g .limits)) (g .clock) (g .placed) r (g .asks) ok n
+      refused-touches c w q (g .placed) r (g .asks) n
       (request-given c _ _ _ _ r (Given b) (requestBlock (r .block2)) (agreed.Block (g .reply)) (sym (g .given)) refl (sym (g .agreed)) b (g .reply) refl refl
       ∙ step _ _ _ _ refl)
 

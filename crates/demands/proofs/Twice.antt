@@ -34,9 +34,9 @@ use Rattle.entries.specs.declared.Entry.{Entry}
 use Rattle.block_table.proofs.TableFits.{row}
 use Rattle.places.specs.Places.{place, opened}
 use Rattle.block_handler.specs.Call.{World, Call, whatOk, call}
-use Rattle.block_handler.proofs.Frame.{WorldFits, key-within, request-took, call-fits}
+use Rattle.block_handler.proofs.Frame.{WorldFits, fits-limits, key-within, request-took, call-fits}
 use Rattle.demands.specs.Demand3.{after, callsOn, Sent, callOn, block, Each, Fills, joined, All, AllBytes, entryAt}
-use Rattle.demands.specs.Touch.{RefusesTo, HandsTo}
+use Rattle.demands.specs.Touch.{Placed, RefusesTo, HandsTo}
 use Rattle.demands.specs.Twice.{lastOf, SentAgain, Twice}
 use Rattle.demands.proofs.OwnStep.{OneBlock, fills-most, form-ok, agrees, held-after, own-last, meets-first}
 use Rattle.demands.proofs.Runs.{all-behind, after-cut, cut, after-clock}
@@ -200,7 +200,9 @@ module _ (c : Config) (w : World) (k : List ℕ) (x : ℕ) (first : Sent) (rest 
 
   refuses : (n : ℕ) → stepRequest c (here * c .upload) (here * c .response) from piece (again .message) ≡ left from piece (Refused n)
       → RefusesTo n call c then q
-  refuses n step = refused-touches c then q fits named in-time in-place (again .message) refl ok n step
+  refuses n step =
+      let placed : Placed c then q = record { limits = fits-limits c then q fits named ok; sixteen = fits .sixteen; clock = in-time; place = in-place } in
+      refused-touches c then q placed (again .message) refl n step
 
   -- a step that puts a body at the start of its piece and names it shows it
   hands : (b : List ℕ) (y : BlockState) → length b ≤ c .upload

@@ -9,5 +9,6 @@ pub mod Twice
 pub mod Crossing
 pub mod Strict
 pub mod Pairing
+pub mod Agreed
 pub mod Pages
 pub mod Given

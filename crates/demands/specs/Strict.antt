@@ -20,11 +20,11 @@ use Rattle.block_state.specs.declared.Answer.the-variants.{Continue, TooLarge, 
 use Rattle.block_state.specs.Message.{Request, request}
 use Rattle.block_state.specs.State.{assembly, nothing, withAssembled}
 use Rattle.block_state.specs.Step.{bytesFrom}
-use Rattle.places.specs.Places.{place, opened}
-use Rattle.block_handler.specs.Call.{World, Call, rowOf, withinLimits}
+use Rattle.places.specs.Places.{opened}
+use Rattle.block_handler.specs.Call.{World, Call, rowOf}
 use Rattle.demands.specs.Demand3.{Handler, block}
 use Rattle.demands.specs.Cases.{Row, answers, step}
-use Rattle.demands.specs.Touch.{RefusesTo}
+use Rattle.demands.specs.Touch.{Placed, RefusesTo}
 
 -- The answer took a block: Continue, Handed, or a Served that carries Block1 too.
 abbrev pub tookBlock : Answer → Bool
@@ -65,14 +65,11 @@ BadlyFormed b p = (b .«size_exponent» ≡ 7) ⊎ (blockSize b < p) ⊎ ((b .mo
 abbrev pub Misplaced : Assembled → BlockValue → Type 0
 Misplaced l b = (b .num ≡ 0 → ⊥) × ((blockStart b ≡ l .len) × (b .«size_exponent» ≡ l .exponent) → ⊥)
 
--- A request with Block1 value b that passes checks 1 to 5: within the limits (1), not before the clock (2), with a place (3), and a block is agreed on (4 and 5).
+-- A request with Block1 value b that passes checks 1 to 3 (`Placed`), and 4 and 5: a block is agreed on.
 pub record PassesFive (c : Config) (w : World) (q : Call) (r : Request) (b : BlockValue) : Type 0 where
   pub asks : q .what ≡ request r
   pub given : requestBlock (r .block1) ≡ Given b
-  pub limits : withinLimits c w q ≡ true
-  pub sixteen : length (w .table .entries) ≡ 16
-  pub clock : w .table .clock ≤ q .time
-  pub placed : place (q .key) (rowOf c w q) < 16
+  pub placed : Placed c w q
   pub reply : BlockValue
   pub agreed : negotiated (Given b) (r .bare) (length (r .payload)) (c .limit) ≡ Block reply
 

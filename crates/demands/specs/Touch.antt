@@ -1,13 +1,22 @@
--- What a call does that is refused once its entry is found, or that hands on a body: of any handler.
-use Prim.Native.Nat.{ℕ}
+-- What a call does that has its place and then is refused, or hands on a body: of any handler.
+use Prim.Native.Nat.{ℕ, _≤_, _<_}
+use mathlib.Core.Bool.{true}
 use mathlib.Core.Path.{_≡_}
 use mathlib.Core.List.{List}
+use lib.ListN.{length}
 use Rattle.block_state.specs.declared.Config.{Config}
 use Rattle.block_state.specs.declared.Answer.the-variants.{Refused}
 use Rattle.block_state.specs.Answers.{said, handed}
 use Rattle.places.specs.Places.{place, opened}
-use Rattle.block_handler.specs.Call.{World, Call, rowOf, tableAfter}
+use Rattle.block_handler.specs.Call.{World, Call, rowOf, tableAfter, withinLimits}
 use Rattle.demands.specs.Demand3.{Handler, seen}
+
+-- A call that passes checks 1 to 3: within the limits, not before the clock, with a place. (That a table has sixteen entries is given by its type.)
+pub record Placed (c : Config) (w : World) (q : Call) : Type 0 where
+  pub limits : withinLimits c w q ≡ true
+  pub sixteen : length (w .table .entries) ≡ 16
+  pub clock : w .table .clock ≤ q .time
+  pub place : place (q .key) (rowOf c w q) < 16
 
 -- Document 01: ""Touch" means: expired entries freed, clock recorded, entry present and touched." The entry's state is as it was, or a new one's; both
 -- memories are as they were.

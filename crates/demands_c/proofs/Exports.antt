@@ -10,8 +10,9 @@ use Rattle.block_handler.specs.Call.{World, Call, call}
 use Rattle.replies.specs.Reply.{replyOf, kindNumber}
 use Rattle.replies.proofs.Shown.{body-bytes}
 use Rattle.handler_c.specs.Contract.{Replies}
-use Rattle.demands.specs.Demand3.{Seen, seen, run, seenOn, payloadOf, callOn, joined, HandsOn, Demand3}
-use Rattle.demands.proofs.Demand3.{demand3}
+use Rattle.demands.specs.Demand3.{Seen, seen, run, seenOn, payloadOf, callOn, joined, HandsOn}
+use Rattle.demands.specs.Clocks.{Demand3Own}
+use Rattle.demands.proofs.Demand3.{demand3-own}
 use Rattle.demands_c.specs.Exports.{Returned, RanInC, SeenInC, seenInC, seenOfC, seenOnInC, HandsOnInC, Demand3InC, DeterminedInC}
 
 -- what C sees of what was seen
@@ -46,10 +47,10 @@ hands-on-in-C bytes (s ∷ []) h = (ap kindNumber (h .0), h .1)
 hands-on-in-C bytes (s ∷ t ∷ l) h = (ap kindNumber (h .0), hands-on-in-C bytes (t ∷ l) (h .1))
 
 pub demand3-in-C : Demand3InC
-unfolding Demand3InC Demand3
+unfolding Demand3InC Demand3Own
 demand3-in-C c w k x first rest later results g r =
     rw (ran-in-C c w (callOn k first ∷ later) results r, seen-on-in-C k (run call c w (callOn k first ∷ later)))
-    (hands-on-in-C (joined first rest) (seenOn k (run call c w (callOn k first ∷ later))) (demand3 c w k x first rest later g))
+    (hands-on-in-C (joined first rest) (seenOn k (run call c w (callOn k first ∷ later))) (demand3-own c w k x first rest later g))
 
 pub determined-in-C : DeterminedInC
 unfolding DeterminedInC
