@@ -1,20 +1,15 @@
 -- EVERY PAIRING, IN THE CALLS. Assumes nothing.
 use Prim.Native.Nat.{ℕ, _+_}
-use mathlib.Core.Bool.{false, _&&_}
+use mathlib.Core.Bool.{false}
 use mathlib.Core.Path.{_≡_, refl, _∙_}
 use mathlib.Core.List.{List}
 use native.Mathlib.Omega.{arith}
 use lib.ListN.{length}
 use lib.Dec.{ltb}
 use Rattle.pieces.proofs.Tests.{on-test}
-use Rattle.splicing.specs.Splice.{spliceOf}
-use Rattle.splicing.specs.declared.Splice.{Splice}
-use Rattle.splicing.specs.declared.Splice.the-variants as splice
-use Rattle.block_value.specs.Value.{blockSize, blockStart}
 use Rattle.block_value.specs.declared.BlockValue.{BlockValue}
-use Rattle.negotiation.specs.Negotiation.{requestBlock, negotiated}
+use Rattle.negotiation.specs.Negotiation.{negotiated}
 use Rattle.negotiation.specs.Chunk.{chunkOf, chunkBlock}
-use Rattle.negotiation.specs.declared.MaybeBlock.{MaybeBlock}
 use Rattle.negotiation.specs.declared.MaybeBlock.the-variants.{Absent, Given}
 use Rattle.negotiation.specs.declared.Negotiated.{Negotiated}
 use Rattle.negotiation.specs.declared.Negotiated.the-variants as agreed
@@ -23,13 +18,11 @@ use Rattle.negotiation.specs.declared.Chunk.the-variants as chunk
 use Rattle.block_state.specs.declared.Config.{Config}
 use Rattle.block_state.specs.declared.BlockState.{BlockState}
 use Rattle.block_state.specs.declared.Answer.{Answer}
-use Rattle.block_state.specs.declared.Answer.the-variants.{Pass, Refused}
+use Rattle.block_state.specs.declared.Answer.the-variants.{Refused}
 use Rattle.block_state.specs.Message.{Request, Response, request, response}
 use Rattle.block_state.specs.Answers.{said}
 use Rattle.block_state.specs.State.{recordedBlock}
 use Rattle.block_state.specs.Step.{Left}
-use Rattle.request_block2.specs.Block2.{served, onward}
-use Rattle.request_block1.specs.Block1.{taken, onSplice, block1Given, badForm, notNext, lengthMet}
 use Rattle.request_step.specs.Step.{onNegotiated, stepRequest}
 use Rattle.response_step.specs.Step.{chunked, onReply, stepResponse}
 use Rattle.places.specs.Places.{opened}
@@ -37,6 +30,7 @@ use Rattle.block_handler.specs.Call.{World, Call, Done, callAt, rowOf, call}
 use Rattle.block_handler.proofs.Frame.{call-cases}
 use Rattle.demands.specs.Touch.{Placed, RefusesTo}
 use Rattle.demands.specs.Agreed.{requestAgrees, responseAgrees, Agrees}
+use Rattle.demands.proofs.Outcomes.{Outcome, refused, past, tooLarge, continued, onwards, serves, none, took, answered}
 use Rattle.demands.proofs.Pages.{chunk-value}
 use Rattle.demands.proofs.Touch.{refused-touches, response-touches}
 
@@ -45,53 +39,22 @@ absent-not b e = let z : _≡_ {A = ℕ} 0 1 = cc in absurd (omega arith)
 
 -- ---- a request's Block1 value
 
-module _ (n : Negotiated) where
-  -- the answer's Block1 value, if it has one, was negotiated
-  abbrev Tells : MaybeBlock → Type 0
-  Tells value = (reply : BlockValue) → value ≡ Given reply → n ≡ agreed.Block reply
-
-  abbrev Told : Left → Type 0
-  Told g = Tells (said (g .answer) .block1)
-
-  told-served : (away : ℕ) (s : BlockState) (u : List ℕ) (block1 : MaybeBlock) → Tells block1 → (ch : Chunk) → Told (served away s u block1 ch)
-  unfolding served
-  told-served away s u block1 h (chunk.Refused m) = λ reply e. absent-not reply e
-  told-served away s u block1 h (chunk.Bytes b from to) = h
-
-  told-onward : (away : ℕ) (s : BlockState) (u : List ℕ) (block2 block1 : MaybeBlock) → Tells block1 → (a : Answer) → Tells (said a .block1)
-      → Told (onward away s u block2 block1 a)
-  unfolding onward
-  told-onward away s u Absent block1 h a k = k
-  told-onward away s u (Given b) block1 h a k =
-      on-test Told (s .cached .held) (λ _. told-served away _ u block1 h (chunkOf b (s .cached .payload))) (λ _. k)
-
-told-splice : (reply : BlockValue) (home away : ℕ) (s : BlockState) (u : List ℕ) (block2 : MaybeBlock) (payload : List ℕ) (b : BlockValue) (l : ℕ) (sp : Splice)
-    → Told (agreed.Block reply) (onSplice home away s u block2 payload b reply l sp)
-unfolding onSplice taken
-told-splice reply home away s u block2 payload b l (splice.Refused m) = λ x e. absent-not x e
-told-splice reply home away s u block2 payload b l (splice.Body m) =
-    on-test (Told (agreed.Block reply)) (b .more) (λ _ x e. cc)
-    (λ _. told-onward (agreed.Block reply) away _ _ block2 (Given reply) (λ x e. cc) _ (λ x e. cc))
-
-told-negotiated : (c : Config) (home away : ℕ) (s : BlockState) (u : List ℕ) (block2 : MaybeBlock) (payload : List ℕ) (block1 : MaybeBlock) (n : Negotiated)
-    → Told n (onNegotiated c home away s u block2 payload block1 n)
-unfolding onNegotiated block1Given
-told-negotiated c home away s u block2 payload block1 (agreed.Refused m) = λ x e. absent-not x e
-told-negotiated c home away s u block2 payload block1 agreed.NoBlock =
-    told-onward agreed.NoBlock away s u block2 Absent (λ x e. absent-not x e) Pass (λ x e. absent-not x e)
-told-negotiated c home away s u block2 payload Absent (agreed.Block reply) = λ x e. cc
-told-negotiated c home away s u block2 payload (Given b) (agreed.Block reply) =
-    let l : ℕ = lengthMet (c .strict) (s .assembled) b in
-    on-test (Told (agreed.Block reply)) (c .strict && badForm b (length payload)) (λ _ x e. absent-not x e)
-    (λ _. on-test (Told (agreed.Block reply)) (c .strict && notNext (s .assembled) b) (λ _ x e. absent-not x e)
-    (λ _. told-splice reply home away s u block2 payload b l (spliceOf (c .upload) l (blockStart b) (blockSize b) (length payload))))
+told : (c : Config) (away : ℕ) (s : BlockState) (u : List ℕ) (r : Request) (g : Left) → Outcome c away s u r g
+    → (reply : BlockValue) → said (g .answer) .block1 ≡ Given reply → requestAgrees c r ≡ agreed.Block reply
+told c away s u r g (refused n why) reply e = absent-not reply e
+told c away s u r g (past t v x n k is) reply e = absent-not reply e
+told c away s u r g (tooLarge y h) reply e = cc
+told c away s u r g (continued t v b y k h) reply e = cc (k .reached)
+told c away s u r g (onwards t v _ _ none h) reply e = absent-not reply e
+told c away s u r g (onwards t v _ _ (took b y body k) h) reply e = cc (k .reached)
+told c away s u r g (serves t v _ _ x y from to none held asks is h) reply e = absent-not reply e
+told c away s u r g (serves t v _ _ x y from to (took b z body k) held asks is h) reply e = cc (k .reached)
 
 told-call : (c : Config) (w : World) (q : Call) (r : Request) (reply : BlockValue) → q .what ≡ request r → said (call c w q .answer) .block1 ≡ Given reply
     → requestAgrees c r ≡ agreed.Block reply
-unfolding callAt stepRequest
 told-call c w q r reply er =
-    call-cases (λ (d : Done). said (d .answer) .block1 ≡ Given reply → requestAgrees c r ≡ agreed.Block reply) c w q (λ n e. absent-not reply e)
-    (λ named ok later i16. rw er (told-negotiated c _ _ (opened (q .key) (rowOf c w q) .state) _ (requestBlock (r .block2)) (r .payload) (requestBlock (r .block1)) (requestAgrees c r) reply))
+    answered (λ (a : Answer). said a .block1 ≡ Given reply → requestAgrees c r ≡ agreed.Block reply) c w q r er (λ n _ e. absent-not reply e)
+    (λ away u g o. told c away _ u r g o reply)
 
 -- ---- a response's Block2 value
 

@@ -2,6 +2,7 @@ pub mod Computes
 pub mod Cases
 pub mod Determined
 pub mod OwnStep
+pub mod Outcomes
 pub mod Runs
 pub mod Held
 pub mod Push
@@ -13,8 +14,9 @@ pub mod Touch
 pub mod Twice
 pub mod Sixteen
 pub mod Crossing
-pub mod Strict
 pub mod Pairing
 pub mod Pages
 pub mod Agreed
+pub mod Refusals
+pub mod Strict
 pub mod Given

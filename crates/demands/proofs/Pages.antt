@@ -1,6 +1,6 @@
 -- A CHUNK SERVED IS THE PAGE'S. Assumes nothing.
 use Prim.Native.Nat.{ℕ, _+_, _-_, _*_, _≤_, _<_}
-use mathlib.Core.Bool.{Bool, true, false, cond, _&&_, false≢true}
+use mathlib.Core.Bool.{Bool, true, false, cond, false≢true}
 use mathlib.Core.Path.{_≡_, refl, sym, ap, _∙_, subst}
 use mathlib.Core.Logic.{_≢_}
 use mathlib.Core.List.{List, [], _∷_, _++_}
@@ -13,19 +13,16 @@ use borrow.Author.Tests.{ltb-false, eqb-true}
 use Rattle.pieces.specs.Memory.{patch, part as bytesIn, pieceOf, putPiece}
 use Rattle.pieces.proofs.Memory.{piece-order, length-piece, length-patch, piece-put-same, piece-put-other, patch-self, take-part, drop-part}
 use Rattle.pieces.proofs.Tests.{ands, by-cases, on-test, clash-of}
-use Rattle.block_value.specs.Value.{blockSize, blockStart}
+use Rattle.block_value.specs.Value.{blockStart}
 use Rattle.block_value.specs.declared.BlockValue.{BlockValue}
 use Rattle.negotiation.specs.Negotiation.{requestBlock, negotiated}
 use Rattle.negotiation.specs.Chunk.{chunkOf, chunkBlock}
 use Rattle.negotiation.specs.declared.MaybeBlock.{MaybeBlock}
-use Rattle.negotiation.specs.declared.MaybeBlock.the-variants.{Absent, Given}
+use Rattle.negotiation.specs.declared.MaybeBlock.the-variants.{Given}
 use Rattle.negotiation.specs.declared.Negotiated.{Negotiated}
 use Rattle.negotiation.specs.declared.Negotiated.the-variants as agreed
 use Rattle.negotiation.specs.declared.Chunk.{Chunk}
 use Rattle.negotiation.specs.declared.Chunk.the-variants as chunk
-use Rattle.splicing.specs.Splice.{spliceOf}
-use Rattle.splicing.specs.declared.Splice.{Splice}
-use Rattle.splicing.specs.declared.Splice.the-variants as splice
 use Rattle.block_state.specs.declared.Config.{Config}
 use Rattle.block_state.specs.declared.Cached.{Cached}
 use Rattle.block_state.specs.declared.BlockState.{BlockState}
@@ -33,11 +30,8 @@ use Rattle.block_state.specs.declared.Part.{Part}
 use Rattle.block_state.specs.declared.Answer.{Answer}
 use Rattle.block_state.specs.declared.Answer.the-variants.{Continue, TooLarge, Handed, Pass, Served, Plain, Whole, First, Refused}
 use Rattle.block_state.specs.Message.{Request, Response, What, request, response}
-use Rattle.block_state.specs.State.{keptWhile, caching, recordedBlock, withRecorded}
+use Rattle.block_state.specs.State.{keptWhile, caching, recordedBlock}
 use Rattle.block_state.specs.Step.{Left, left, bytesFrom}
-use Rattle.request_block2.specs.Block2.{served, onward}
-use Rattle.request_block1.specs.Block1.{taken, onSplice, block1Given, badForm, notNext, lengthMet}
-use Rattle.request_step.specs.Step.{onNegotiated, stepRequest}
 use Rattle.response_step.specs.Step.{chunked, onReply, stepResponse}
 use Rattle.keys.specs.Keys.{same}
 use Rattle.keys.proofs.Keys.{same-refl, same-eq}
@@ -56,53 +50,24 @@ use Rattle.block_handler.specs.Call.{World, Call, Done, callAt, rowOf, call}
 use Rattle.block_handler.proofs.Frame.{WorldFits, call-cases, call-fits}
 use Rattle.demands.specs.Demand3.{after, AllBytes, entryAt}
 use Rattle.demands.proofs.OwnStep.{held-after}
+use Rattle.demands.proofs.Outcomes.{Outcome, refused, past, tooLarge, continued, onwards, serves, none as no-block1, took, outcome}
 use Rattle.demands.proofs.Runs.{after-fits}
 use Rattle.demands.proofs.Push.{shown-part}
 use Rattle.demands.specs.Pages.{Page, isFirst, storedBy, noted, lastStored, ShowsPage, ServesThePage}
 
 -- ---- a request's step: the cache stays or goes
 
-module _ (s : BlockState) where
-  abbrev Stays : Left → Type 0
-  Stays g = g .state .cached .held ≡ true → g .state .cached ≡ s .cached
-
-  stays-served : (t : BlockState) → t .cached ≡ s .cached → (away : ℕ) (u : List ℕ) (block1 : MaybeBlock) (ch : Chunk) → Stays (served away t u block1 ch)
-  unfolding served
-  stays-served t e away u block1 (chunk.Refused n) = λ h. e
-  stays-served t e away u block1 (chunk.Bytes b from to) = kept (b .more)
-    where
-      kept : (m : Bool) → keptWhile m (t .cached) .held ≡ true → keptWhile m (t .cached) ≡ s .cached
-      kept true h = e
-      kept false h = absurd (false≢true h)
-
-  stays-onward : (t : BlockState) → t .cached ≡ s .cached → (away : ℕ) (u : List ℕ) (block2 block1 : MaybeBlock) (a : Answer) → Stays (onward away t u block2 block1 a)
-  unfolding onward
-  stays-onward t e away u Absent block1 a = λ h. e
-  stays-onward t e away u (Given b) block1 a =
-      on-test Stays (t .cached .held) (λ _. stays-served _ e away u block1 (chunkOf b (t .cached .payload))) (λ _ h. e)
-
-  stays-splice : (home away : ℕ) (u : List ℕ) (block2 : MaybeBlock) (payload : List ℕ) (b reply : BlockValue) (l : ℕ) (sp : Splice)
-      → Stays (onSplice home away s u block2 payload b reply l sp)
-  unfolding onSplice taken
-  stays-splice home away u block2 payload b reply l (splice.Refused n) = λ h. refl
-  stays-splice home away u block2 payload b reply l (splice.Body n) =
-      on-test Stays (b .more) (λ _ h. refl) (λ _. stays-onward _ refl away _ block2 (Given reply) _)
-
-  stays-negotiated : (c : Config) (home away : ℕ) (u : List ℕ) (block2 : MaybeBlock) (payload : List ℕ) (block1 : MaybeBlock) (n : Negotiated)
-      → Stays (onNegotiated c home away s u block2 payload block1 n)
-  unfolding onNegotiated block1Given
-  stays-negotiated c home away u block2 payload block1 (agreed.Refused n) = λ h. refl
-  stays-negotiated c home away u block2 payload block1 agreed.NoBlock = stays-onward s refl away u block2 Absent Pass
-  stays-negotiated c home away u block2 payload Absent (agreed.Block reply) = λ h. refl
-  stays-negotiated c home away u block2 payload (Given b) (agreed.Block reply) =
-      on-test Stays (c .strict && badForm b (length payload)) (λ _ h. refl)
-      (λ _. on-test Stays (c .strict && notNext (s .assembled) b) (λ _ h. refl) (λ _. stays-splice home away u block2 payload b reply (lengthMet (c .strict) (s .assembled) b)
-      (spliceOf (c .upload) (lengthMet (c .strict) (s .assembled) b) (blockStart b) (blockSize b) (length payload))))
-
-  stays-request : (c : Config) (home away : ℕ) (u : List ℕ) (r : Request) → Stays (stepRequest c home away s u r)
-  unfolding stepRequest
-  stays-request c home away u r =
-      stays-negotiated c home away u (requestBlock (r .block2)) (r .payload) (requestBlock (r .block1)) (negotiated (requestBlock (r .block1)) (r .bare) (length (r .payload)) (c .limit))
+stays : (c : Config) (away : ℕ) (s : BlockState) (u : List ℕ) (r : Request) (g : Left) → Outcome c away s u r g → g .state .cached .held ≡ true → g .state .cached ≡ s .cached
+stays c away s u r g (refused n why) h = refl
+stays c away s u r g (past t v x n e is) h = e
+stays c away s u r g (tooLarge reply e) h = refl
+stays c away s u r g (continued t v b reply k e) h = e
+stays c away s u r g (onwards t v block1 a k e) h = e
+stays c away s u r g (serves t v block1 a x y from to k held asks is e) h = kept (y .more) e h
+  where
+    kept : (m : Bool) → t .cached ≡ keptWhile m (s .cached) → t .cached .held ≡ true → t .cached ≡ s .cached
+    kept true e h = e
+    kept false e h = absurd (false≢true (sym (ap (λ (y : Cached). y .held) e) ∙ h))
 
 -- ---- a request's step that serves
 
@@ -116,58 +81,30 @@ record ServedFrom (cached : Cached) (away : ℕ) (block2 : MaybeBlock) (b : Bloc
   its-head : head ≡ bytesFrom away (cached .head)
   its-part : part ≡ record { from = away + cached .head + from; to = away + cached .head + to }
 
-module _ (s : BlockState) (away : ℕ) (block2 : MaybeBlock) where
-  abbrev From : Answer → Type 0
-  From (Continue b) = Unit {0}
-  From (TooLarge b) = Unit {0}
-  From (Handed b body) = Unit {0}
-  From Pass = Unit {0}
-  From (Served block1 b head part) = ServedFrom (s .cached) away block2 b head part
-  From Plain = Unit {0}
-  From (Whole b part) = Unit {0}
-  From (First b part) = Unit {0}
-  From (Refused n) = Unit {0}
+abbrev From : BlockState → ℕ → MaybeBlock → Answer → Type 0
+From s away block2 (Continue b) = Unit {0}
+From s away block2 (TooLarge b) = Unit {0}
+From s away block2 (Handed b body) = Unit {0}
+From s away block2 Pass = Unit {0}
+From s away block2 (Served block1 b head part) = ServedFrom (s .cached) away block2 b head part
+From s away block2 Plain = Unit {0}
+From s away block2 (Whole b part) = Unit {0}
+From s away block2 (First b part) = Unit {0}
+From s away block2 (Refused n) = Unit {0}
 
-  from-served : (t : BlockState) → t .cached ≡ s .cached → s .cached .held ≡ true → (u : List ℕ) (block1 : MaybeBlock) (x : BlockValue) → block2 ≡ Given x → (ch : Chunk)
-      → chunkOf x (s .cached .payload) ≡ ch → From (served away t u block1 ch .answer)
-  unfolding served
-  from-served t e held u block1 x f (chunk.Refused n) g = tt
-  from-served t e held u block1 x f (chunk.Bytes b from to) g =
-      rw e (record { held = held; asked = x; asks = f; from = from; to = to; bytes = g; its-head = refl; its-part = refl })
-
-  from-onward : (t : BlockState) → t .cached ≡ s .cached → (u : List ℕ) (b2 block1 : MaybeBlock) → b2 ≡ block2 → (a : Answer) → From a → From (onward away t u b2 block1 a .answer)
-  unfolding onward
-  from-onward t e u Absent block1 f a h = h
-  from-onward t e u (Given b) block1 f a h =
-      on-test (λ (g : Left). From (g .answer)) (t .cached .held)
-      (λ held. from-served (withRecorded t (Given b)) e (sym (ap (λ (y : Cached). y .held) e) ∙ held) u block1 b (sym f) (chunkOf b (t .cached .payload))
-      (ap (λ (y : Cached). chunkOf b (y .payload)) (sym e))) (λ _. h)
-
-  from-splice : (home : ℕ) (u payload : List ℕ) (b reply : BlockValue) (l : ℕ) (sp : Splice) → From (onSplice home away s u block2 payload b reply l sp .answer)
-  unfolding onSplice taken
-  from-splice home u payload b reply l (splice.Refused n) = tt
-  from-splice home u payload b reply l (splice.Body n) =
-      on-test (λ (g : Left). From (g .answer)) (b .more) (λ _. tt) (λ _. from-onward _ refl _ block2 (Given reply) refl _ tt)
-
-  from-negotiated : (c : Config) (home : ℕ) (u payload : List ℕ) (block1 : MaybeBlock) (n : Negotiated) → From (onNegotiated c home away s u block2 payload block1 n .answer)
-  unfolding onNegotiated block1Given
-  from-negotiated c home u payload block1 (agreed.Refused n) = tt
-  from-negotiated c home u payload block1 agreed.NoBlock = from-onward s refl u block2 Absent refl Pass tt
-  from-negotiated c home u payload Absent (agreed.Block reply) = tt
-  from-negotiated c home u payload (Given b) (agreed.Block reply) =
-      on-test (λ (g : Left). From (g .answer)) (c .strict && badForm b (length payload)) (λ _. tt)
-      (λ _. on-test (λ (g : Left). From (g .answer)) (c .strict && notNext (s .assembled) b) (λ _. tt) (λ _. from-splice home u payload b reply (lengthMet (c .strict) (s .assembled) b)
-      (spliceOf (c .upload) (lengthMet (c .strict) (s .assembled) b) (blockStart b) (blockSize b) (length payload))))
-
-from-request : (c : Config) (home away : ℕ) (s : BlockState) (u : List ℕ) (r : Request) → From s away (requestBlock (r .block2)) (stepRequest c home away s u r .answer)
-unfolding stepRequest
-from-request c home away s u r =
-    from-negotiated s away (requestBlock (r .block2)) c home u (r .payload) (requestBlock (r .block1))
-    (negotiated (requestBlock (r .block1)) (r .bare) (length (r .payload)) (c .limit))
+from-request : (c : Config) (away : ℕ) (s : BlockState) (u : List ℕ) (r : Request) (g : Left) → Outcome c away s u r g → From s away (requestBlock (r .block2)) (g .answer)
+from-request c away s u r g (refused n why) = tt
+from-request c away s u r g (past t v x n e is) = tt
+from-request c away s u r g (tooLarge reply e) = tt
+from-request c away s u r g (continued t v b reply k e) = tt
+from-request c away s u r g (onwards t v _ _ no-block1 e) = tt
+from-request c away s u r g (onwards t v _ _ (took b reply body k) e) = tt
+from-request c away s u r g (serves t v block1 a x y from to k held asks is e) =
+    record { held = held; asked = x; asks = asks; from = from; to = to; bytes = is; its-head = refl; its-part = refl }
 
 -- ---- a response's step: nothing is stored, or First is answered
 
-data Storing (c : Config) (s : BlockState) (d head payload : List ℕ) : Left → Type 0 where
+pub data Storing (c : Config) (s : BlockState) (d head payload : List ℕ) : Left → Type 0 where
   as-before : (a : Answer) → isFirst a ≡ false → Storing c s d head payload (left s d a)
   stores : (t : BlockState) (a : Answer) → isFirst a ≡ true → t .cached ≡ caching (length head) (length payload) → length head + length payload ≤ c .response
       → Storing c s d head payload (left t (patch d 0 (head ++ payload)) a)
@@ -181,7 +118,7 @@ storing-chunk c s d head payload (chunk.Bytes b from to) =
     (λ n. stores _ _ refl refl (ltb-false (c .response) (length head + length payload) n)))
     (λ _. as-before _ refl)
 
-storing : (c : Config) (s : BlockState) (d : List ℕ) (r : Response) → Storing c s d (r .head) (r .payload) (stepResponse c s d r)
+pub storing : (c : Config) (s : BlockState) (d : List ℕ) (r : Response) → Storing c s d (r .head) (r .payload) (stepResponse c s d r)
 unfolding stepResponse onReply
 storing c s d r = on-test (Storing c s d (r .head) (r .payload)) (r .own) (λ _. as-before _ refl) (λ _. replied (negotiated (recordedBlock (s .recorded)) (r .bare) (length (r .payload)) (c .limit)))
   where
@@ -321,7 +258,7 @@ module _ (c : Config) (w : World) (q : Call) (k : List ℕ) (p : Option Page) (f
     unfolding callAt
     placed (request r) i i16 =
         rw (cond-same (same k (q .key)) p)
-        (put-back _ (stays-request (e .state) c (here * c .upload) (here * c .response) (pieceOf (c .upload) here (w .upload)) r) i i16)
+        (put-back _ (stays c (here * c .response) (e .state) (pieceOf (c .upload) here (w .upload)) r _ (outcome c (here * c .response) (e .state) (pieceOf (c .upload) here (w .upload)) r (here * c .upload))) i i16)
     placed (response r) i i16 = stored-entry r _ (storing c (e .state) (pieceOf (c .response) here (w .response)) r) i i16
 
   refused-noted : (n : ℕ) → noted k p q (Refused n) ≡ p
@@ -390,7 +327,8 @@ served-page c w q p r block1 b head part f known er =
     let away : ℕ = i * c .response in
     let inside : i * c .response + c .response ≤ length (w .response) = omega (arith, f .response, piece-order i 16 (c .response) i16) in
     let g : ServedFrom (s .cached) away (requestBlock (r .block2)) b head part =
-    subst (From s away (requestBlock (r .block2))) e (from-request c (i * c .upload) away s (pieceOf (c .upload) i (w .upload)) r) in
+    subst (From s away (requestBlock (r .block2))) e
+    (from-request c away s (pieceOf (c .upload) i (w .upload)) r _ (outcome c away s (pieceOf (c .upload) i (w .upload)) r (i * c .upload))) in
     let h : Caches c (w .response) i (s .cached) p = opened-entry c w q (q .key) p f known i16 (same-refl (q .key)) (g .held) in
     let n : length (h .page .head ++ h .page .payload) ≡ length (h .page .head) + length (h .page .payload) = length-append (h .page .head) (h .page .payload) in
     let shows-head : partOf (w .response) head ≡ h .page .head =

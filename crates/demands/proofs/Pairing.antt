@@ -209,6 +209,16 @@ module _ (b : MaybeBlock) (bare p t : ℕ) where
       let exponent : r .«size_exponent» ≡ exponentOf gr = cc in
       record { least = a; most = c; num = num; more = more; exponent = exponent; room-left = l }
 
+-- a negotiation is refused with 4 or 5
+pub refusal-number : (b : MaybeBlock) (bare p t n : ℕ) → negotiated b bare p t ≡ Refused n → (n ≡ 4) ⊎ (n ≡ 5)
+refusal-number b bare p t n e = of _ (out b bare p t) e
+  where
+    of : (y : Negotiated) → Out b bare p t y → y ≡ Refused n → (n ≡ 4) ⊎ (n ≡ 5)
+    of y (four h) e = let z : n ≡ 4 = cc in inl z
+    of y (none h k) e = none-is-not n e
+    of y (answered h k _ (refused u)) e = let z : n ≡ 5 = cc in inr z
+    of y (answered h k _ (block l m o)) e = block-is-not _ n e
+
 granted-room : (b : MaybeBlock) (m : ℕ) → (granted b m ≤ m) × (16 ≤ m → 16 ≤ granted b m) × (m < 16 → granted b m ≡ m)
 granted-room Absent m = (omega arith, λ h. h, λ h. refl)
 granted-room (Given b) m = (omega arith, λ h. omega (arith, size-least (b .«size_exponent»)), λ h. omega (arith, size-least (b .«size_exponent»)))

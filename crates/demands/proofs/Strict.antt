@@ -1,42 +1,38 @@
 -- STRICT MODE SAYS NO. Assumes nothing.
 use Prim.Native.Nat.{ℕ, _+_, _*_, _%_, _≤_}
-use mathlib.Core.Bool.{Bool, true, false, not, _&&_, _||_}
-use mathlib.Core.Path.{_≡_, refl, sym, _∙_, ap}
-use mathlib.Core.Logic.{inl, inr}
+use mathlib.Core.Bool.{Bool, true, false, false≢true, not, _&&_, _||_}
+use mathlib.Core.Path.{_≡_, refl, sym, _∙_}
+use mathlib.Core.Logic.{inl, inr, ⊎-elim}
 use mathlib.Core.List.{List, [], _∷_}
-use mathlib.Core.Option.{Option, none, some}
+use mathlib.Core.Option.{Option, none as no-option, some}
 use native.Mathlib.Omega.{arith}
 use lib.ListN.{length}
 use lib.Dec.{ltb, eqb}
 use borrow.Author.Tests.{not-true, not-false, ltb-true, ltb-false, lt-ltb, eqb-true, eq-eqb, ne-eqb}
-use Rattle.pieces.proofs.Tests.{false-is-not, and-left, and-right, by-cases, on-test, clash-of, refute}
+use Rattle.pieces.proofs.Tests.{and-both, false-is-not, and-left, and-right, by-cases, clash-of, refute}
 use Rattle.block_value.specs.Value.{blockSize, blockStart, readOf}
 use Rattle.block_value.specs.declared.BlockValue.{BlockValue}
 use Rattle.negotiation.specs.Negotiation.{requestBlock}
-use Rattle.negotiation.specs.Chunk.{chunkOf}
-use Rattle.negotiation.specs.declared.MaybeBlock.{MaybeBlock}
-use Rattle.negotiation.specs.declared.MaybeBlock.the-variants.{Absent, Given}
-use Rattle.negotiation.specs.declared.Negotiated.{Negotiated}
+use Rattle.negotiation.specs.declared.MaybeBlock.the-variants.{Given}
 use Rattle.negotiation.specs.declared.Negotiated.the-variants as agreed
-use Rattle.negotiation.specs.declared.Chunk.{Chunk}
-use Rattle.negotiation.specs.declared.Chunk.the-variants as chunk
 use Rattle.block_state.specs.declared.Config.{Config}
 use Rattle.block_state.specs.declared.Assembled.{Assembled}
 use Rattle.block_state.specs.declared.BlockState.{BlockState}
-use Rattle.block_state.specs.declared.Answer.the-variants.{Pass, Refused}
+use Rattle.block_state.specs.declared.Answer.{Answer}
+use Rattle.block_state.specs.declared.Answer.the-variants.{Refused}
 use Rattle.block_state.specs.Message.{Request, request}
 use Rattle.block_state.specs.Step.{Left, left}
-use Rattle.request_block2.specs.Block2.{served, onward}
 use Rattle.request_block1.specs.Block1.{badForm, notNext, block1Given}
 use Rattle.request_block1.proofs.Steps.{given-bad, given-not-next}
-use Rattle.request_step.specs.Step.{onNegotiated, stepRequest}
 use Rattle.request_step.proofs.Steps.{request-given}
 use Rattle.places.specs.Places.{opened}
-use Rattle.block_handler.specs.Call.{World, Call, Done, callAt, rowOf, call}
-use Rattle.block_handler.proofs.Frame.{call-cases}
+use Rattle.block_handler.specs.Call.{World, Call, rowOf, call}
 use Rattle.demands.specs.Touch.{RefusesTo}
 use Rattle.demands.specs.Strict.{tookBlock, assembledFor, RightlyTaken, BadlyFormed, Misplaced, PassesFive, StrictSaysNo}
+use Rattle.demands.proofs.Outcomes.{TookBlock, Why, unagreed, badly, astray, unspliced, Outcome, refused, past, tooLarge, continued, onwards, serves, none, took, answered}
 use Rattle.demands.proofs.Touch.{refused-touches}
+use Rattle.demands.proofs.Pairing.{refusal-number}
+use Rattle.demands.proofs.Refusals.{same-number, splice-number, of-refusal}
 
 -- ---- what the two tests say
 
@@ -58,19 +54,19 @@ bad-is b p (inl e) = rw (eq-eqb (b .«size_exponent») 7 e)
 bad-is b p (inr (inl h)) = rw (lt-ltb (blockSize b) p h) (or-left _ _ (or-right (eqb (b .«size_exponent») 7) true refl))
 bad-is b p (inr (inr h)) = rw (h .0, ne-eqb p (blockSize b) (h .1)) (or-right (eqb (b .«size_exponent») 7 || ltb (blockSize b) p) true refl)
 
-bad-not : (b : BlockValue) (p : ℕ) → (BadlyFormed b p → ⊥) → badForm b p ≡ false
+bad-as : (b : BlockValue) (p : ℕ) → badForm b p ≡ true → BadlyFormed b p
 unfolding badForm
-bad-not b p well = refute (badForm b p) (λ y. well (is y))
+bad-as b p y =
+    by-cases (eqb (b .«size_exponent») 7) (λ e. inl (eqb-true (b .«size_exponent») 7 e))
+    (λ n7. by-cases (ltb (blockSize b) p) (λ e. inr (inl (ltb-true (blockSize b) p e)))
+    (λ nl. let m : (b .more && not (eqb p (blockSize b))) ≡ true = last n7 nl y in
+    inr (inr (and-left _ _ m, λ e. clash-of (eqb p (blockSize b)) (eq-eqb p (blockSize b) e) (not-true (eqb p (blockSize b)) (and-right (b .more) _ m))))))
   where
-    is : badForm b p ≡ true → BadlyFormed b p
-    is y =
-        by-cases (eqb (b .«size_exponent») 7) (λ e. inl (eqb-true (b .«size_exponent») 7 e))
-        (λ n7. by-cases (ltb (blockSize b) p) (λ e. inr (inl (ltb-true (blockSize b) p e)))
-        (λ nl. let m : (b .more && not (eqb p (blockSize b))) ≡ true = last n7 nl y in
-        inr (inr (and-left _ _ m, λ e. clash-of (eqb p (blockSize b)) (eq-eqb p (blockSize b) e) (not-true (eqb p (blockSize b)) (and-right (b .more) _ m))))))
-      where
-        last : eqb (b .«size_exponent») 7 ≡ false → ltb (blockSize b) p ≡ false → badForm b p ≡ true → (b .more && not (eqb p (blockSize b))) ≡ true
-        last e f = rw (e, f) (λ z. z)
+    last : eqb (b .«size_exponent») 7 ≡ false → ltb (blockSize b) p ≡ false → badForm b p ≡ true → (b .more && not (eqb p (blockSize b))) ≡ true
+    last e f = rw (e, f) (λ z. z)
+
+bad-not : (b : BlockValue) (p : ℕ) → (BadlyFormed b p → ⊥) → badForm b p ≡ false
+bad-not b p well = refute (badForm b p) (λ y. well (bad-as b p y))
 
 good-is : (l : Assembled) (r : Request) (b : BlockValue) → requestBlock (r .block1) ≡ Given b → b .«size_exponent» ≤ 7
     → badForm b (length (r .payload)) ≡ false → notNext l b ≡ false → RightlyTaken l r b
@@ -107,67 +103,48 @@ misplaced-is l b m =
     (refute (eqb (blockStart b) (l .len) && eqb (b .«size_exponent») (l .exponent))
     (λ y. m .1 (eqb-true (blockStart b) (l .len) (and-left _ _ y), eqb-true (b .«size_exponent») (l .exponent) (and-right (eqb (blockStart b) (l .len)) _ y)))))
 
+astray-as : (l : Assembled) (b : BlockValue) → notNext l b ≡ true → Misplaced l b
+unfolding notNext
+astray-as l b y = (
+  λ e. clash-of (eqb (b .num) 0) (eq-eqb (b .num) 0 e) (not-true (eqb (b .num) 0) (and-left _ _ y)),
+  λ h.
+      clash-of (eqb (blockStart b) (l .len) && eqb (b .«size_exponent») (l .exponent))
+      (and-both _ _ (eq-eqb (blockStart b) (l .len) (h .0)) (eq-eqb (b .«size_exponent») (l .exponent) (h .1)))
+      (not-true _ (and-right (not (eqb (b .num) 0)) _ y)),
+)
+
 -- an exponent that was read is three bits
 exponent-read : (o : Option (List ℕ)) (b : BlockValue) → requestBlock o ≡ Given b → b .«size_exponent» ≤ 7
 unfolding requestBlock readOf
-exponent-read none b e = let z : _≡_ {A = ℕ} 0 1 = cc in absurd (omega arith)
+exponent-read no-option b e = let z : _≡_ {A = ℕ} 0 1 = cc in absurd (omega arith)
 exponent-read (some []) b e = let z : b .«size_exponent» ≡ 0 % 8 = cc in omega arith
 exponent-read (some (x ∷ [])) b e = let z : b .«size_exponent» ≡ x % 8 = cc in omega arith
 exponent-read (some (x ∷ y ∷ [])) b e = let z : b .«size_exponent» ≡ (x * 256 + y) % 8 = cc in omega arith
 exponent-read (some (x ∷ y ∷ v ∷ l)) b e = let z : _≡_ {A = ℕ} 0 1 = cc in absurd (omega arith)
 
--- ---- a step that took a block
+-- ---- a block that was taken
 
-module _ (c : Config) (home away : ℕ) (s : BlockState) (u : List ℕ) (strict : c .strict ≡ true) where
-  not-served : (s : BlockState) (ch : Chunk) → tookBlock (served away s u Absent ch .answer) ≡ false
-  unfolding served
-  not-served s (chunk.Refused n) = refl
-  not-served s (chunk.Bytes b from to) = refl
+taken-as : (c : Config) (away : ℕ) (s : BlockState) (u : List ℕ) (r : Request) (b reply : BlockValue) → c .strict ≡ true → TookBlock c away s u r b reply
+    → (x : BlockValue) × RightlyTaken (s .assembled) r x
+taken-as c away s u r b reply strict k =
+    (b, good-is (s .assembled) r b (k .given) (exponent-read (r .block1) b (k .given)) (rw strict at (k .form)) (rw strict at (k .next)))
 
-  not-onward : (block2 : MaybeBlock) → tookBlock (onward away s u block2 Absent Pass .answer) ≡ false
-  unfolding onward
-  not-onward Absent = refl
-  not-onward (Given b) =
-      on-test (λ (g : Left). tookBlock (g .answer) ≡ false) (s .cached .held) (λ _. not-served _ (chunkOf b (s .cached .payload))) (λ _. refl)
-
-  given-took : (block2 : MaybeBlock) (payload : List ℕ) (b reply : BlockValue) → tookBlock (block1Given c home away s u block2 payload b reply .answer) ≡ true
-      → (badForm b (length payload) ≡ false) × (notNext (s .assembled) b ≡ false)
-  given-took block2 payload b reply took =
-      by-cases (badForm b (length payload))
-      (λ y. absurd (never (given-bad c home away s u block2 payload b reply (rw (strict, y)))))
-      (λ n.
-      let good : (c .strict && badForm b (length payload)) ≡ false = rw (strict, n) in
-      by-cases (notNext (s .assembled) b)
-      (λ y. absurd (never (given-not-next c home away s u block2 payload b reply good (rw (strict, y)))))
-      (λ m. (n, m)))
-    where
-      never : {n : ℕ} → block1Given c home away s u block2 payload b reply ≡ left s u (Refused n) → ⊥
-      never e = clash-of (tookBlock (block1Given c home away s u block2 payload b reply .answer)) took (ap (λ (g : Left). tookBlock (g .answer)) e)
-
-  on-took : (block2 : MaybeBlock) (payload : List ℕ) (block1 : MaybeBlock) (n : Negotiated)
-      → tookBlock (onNegotiated c home away s u block2 payload block1 n .answer) ≡ true
-      → (b : BlockValue) × (block1 ≡ Given b) × (badForm b (length payload) ≡ false) × (notNext (s .assembled) b ≡ false)
-  unfolding onNegotiated
-  on-took block2 payload block1 (agreed.Refused n) h = absurd (clash-of false h refl)
-  on-took block2 payload block1 agreed.NoBlock h = absurd (clash-of _ h (not-onward block2))
-  on-took block2 payload Absent (agreed.Block reply) h = absurd (clash-of false h refl)
-  on-took block2 payload (Given b) (agreed.Block reply) h =
-      let t = given-took block2 payload b reply h in
-      (b, refl, t .0, t .1)
-
-  step-took : (r : Request) → tookBlock (stepRequest c home away s u r .answer) ≡ true → (b : BlockValue) × RightlyTaken (s .assembled) r b
-  unfolding stepRequest
-  step-took r h =
-      let t = on-took (requestBlock (r .block2)) (r .payload) (requestBlock (r .block1)) _ h in
-      (t .0, good-is (s .assembled) r (t .0) (t .1) (exponent-read (r .block1) (t .0) (t .1)) (t .2) (t .3))
+step-took : (c : Config) (away : ℕ) (s : BlockState) (u : List ℕ) (r : Request) (g : Left) → c .strict ≡ true → Outcome c away s u r g → tookBlock (g .answer) ≡ true
+    → (b : BlockValue) × RightlyTaken (s .assembled) r b
+step-took c away s u r g strict (refused n why) h = absurd (false≢true h)
+step-took c away s u r g strict (past t v x n e is) h = absurd (false≢true h)
+step-took c away s u r g strict (tooLarge reply e) h = absurd (false≢true h)
+step-took c away s u r g strict (continued t v b reply k e) h = taken-as c away s u r b reply strict k
+step-took c away s u r g strict (onwards t v _ _ none e) h = absurd (false≢true h)
+step-took c away s u r g strict (onwards t v _ _ (took b reply body k) e) h = taken-as c away s u r b reply strict k
+step-took c away s u r g strict (serves t v _ _ x y from to none held asks is e) h = absurd (false≢true h)
+step-took c away s u r g strict (serves t v _ _ x y from to (took b reply body k) held asks is e) h = taken-as c away s u r b reply strict k
 
 taken-rightly : (c : Config) (w : World) (q : Call) (r : Request) → c .strict ≡ true → q .what ≡ request r → tookBlock (call c w q .answer) ≡ true
     → (b : BlockValue) × RightlyTaken (assembledFor c w q) r b
-unfolding callAt
 taken-rightly c w q r strict e =
-    call-cases (λ (d : Done). tookBlock (d .answer) ≡ true → (b : BlockValue) × RightlyTaken (assembledFor c w q) r b) c w q
-    (λ n h. absurd (clash-of false h refl))
-    (λ named ok later p. rw e (λ h. step-took c _ _ (opened (q .key) (rowOf c w q) .state) _ strict r h))
+    answered (λ (a : Answer). tookBlock a ≡ true → (b : BlockValue) × RightlyTaken (assembledFor c w q) r b) c w q r e (λ n _ h. absurd (false≢true h))
+    (λ away u g o. step-took c away _ u r g strict o)
 
 -- ---- a block that is refused
 
@@ -191,11 +168,55 @@ module _ (c : Config) (w : World) (q : Call) (r : Request) (b : BlockValue) (str
       given-not-next c home away s u (requestBlock (r .block2)) (r .payload) b (g .reply) (rw (strict, bad-not b (length (r .payload)) well))
       (rw (strict, e, misplaced-is (assembledFor c w q) b m)))
 
+-- ---- 10 and 9 only then
+
+module _ (c : Config) (w : World) (q : Call) (r : Request) (asks : q .what ≡ request r) where
+  abbrev l : Assembled
+  l = assembledFor c w q
+
+  abbrev Ten : Type 0
+  Ten = (c .strict ≡ true) × (b : BlockValue) × (requestBlock (r .block1) ≡ Given b) × BadlyFormed b (length (r .payload))
+
+  abbrev Nine : Type 0
+  Nine = (c .strict ≡ true) × (b : BlockValue) × (requestBlock (r .block1) ≡ Given b) × (BadlyFormed b (length (r .payload)) → ⊥) × Misplaced l b
+
+  module _ (away : ℕ) (s : BlockState) (u : List ℕ) (its : s .assembled ≡ l) where
+    why-ten : (n : ℕ) → Why c away s u r n → n ≡ 10 → Ten
+    why-ten n (unagreed m e) z = absurd (⊎-elim (λ (y : m ≡ 4). omega arith) (λ (y : m ≡ 5). omega arith) (refusal-number _ _ _ _ m e))
+    why-ten n (badly b reply given e y) z = (and-left _ _ y, b, given, bad-as b (length (r .payload)) (and-right (c .strict) _ y))
+    why-ten n (astray b reply given e f y) z = absurd (omega arith)
+    why-ten n (unspliced b reply k m t e) z = absurd (⊎-elim (λ (y : m ≡ 6). omega arith) (λ (y : m ≡ 7). omega arith) (splice-number _ k _ _ _ m e))
+
+    why-nine : (n : ℕ) → Why c away s u r n → n ≡ 9 → Nine
+    why-nine n (unagreed m e) z = absurd (⊎-elim (λ (y : m ≡ 4). omega arith) (λ (y : m ≡ 5). omega arith) (refusal-number _ _ _ _ m e))
+    why-nine n (badly b reply given e y) z = absurd (omega arith)
+    why-nine n (astray b reply given e f y) z =
+        let strict : c .strict ≡ true = and-left _ _ y in
+        let well : badForm b (length (r .payload)) ≡ false = rw strict at f in
+        (strict, b, given, λ bad. clash-of _ (bad-is b (length (r .payload)) bad) well, rw its at (astray-as (s .assembled) b (and-right (c .strict) _ y)))
+    why-nine n (unspliced b reply k m t e) z = absurd (⊎-elim (λ (y : m ≡ 6). omega arith) (λ (y : m ≡ 7). omega arith) (splice-number _ k _ _ _ m e))
+
+    -- a step that is refused, and not with 8, has its reason
+    reason : (P : Type 0) (n : ℕ) → (n ≡ 8 → ⊥) → ((m : ℕ) → Why c away s u r m → m ≡ n → P) → (g : Left) → Outcome c away s u r g → g .answer ≡ Refused n → P
+    reason P n no8 why = of-refusal c away s u r n (λ g. P) (λ m z k. why m k z) (λ m z y t v k. absurd (no8 y))
+
+  ten-only : call c w q .answer ≡ Refused 10 → Ten
+  ten-only =
+      answered (λ (a : Answer). a ≡ Refused 10 → Ten) c w q r asks (λ n h e. let z : n ≡ 10 = same-number n 10 e in absurd (omega arith))
+      (λ away u g o. reason away _ u refl Ten 10 (λ e. omega arith) (why-ten away _ u refl) g o)
+
+  nine-only : call c w q .answer ≡ Refused 9 → Nine
+  nine-only =
+      answered (λ (a : Answer). a ≡ Refused 9 → Nine) c w q r asks (λ n h e. let z : n ≡ 9 = same-number n 9 e in absurd (omega arith))
+      (λ away u g o. reason away _ u refl Nine 9 (λ e. omega arith) (why-nine away _ u refl) g o)
+
 -- STRICT MODE SAYS NO
 pub strict-says-no : StrictSaysNo call
 strict-says-no =
     record {
       taken = taken-rightly;
       ten = refuses-ten;
+      tenOnly = ten-only;
       nine = refuses-nine;
+      nineOnly = nine-only;
     }

@@ -39,7 +39,7 @@ module _ (c : Config) (w : World) (q : Call) (g : Placed c w q) where
   fits : WorldFits c w
   fits = world-fits c w q (g .limits) (g .sixteen)
 
-  made : call c w q ≡ callAt c w (q .time) found here (opened (q .key) found) (q .what)
+  pub made : call c w q ≡ callAt c w (q .time) found here (opened (q .key) found) (q .what)
   unfolding withinLimits
   made = let h = g .limits in call-placed c w q fits (key-within c w q (g .limits)) (g .clock) (g .place) (search ands)
 

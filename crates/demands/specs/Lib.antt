@@ -12,3 +12,4 @@ pub mod Pairing
 pub mod Agreed
 pub mod Pages
 pub mod Given
+pub mod Refusals

@@ -80,9 +80,15 @@ pub record StrictSaysNo (h : Handler) : Type 0 where
   -- Badly formed: 10, misplaced or not. (So 10 stands before 9.)
   pub ten : (c : Config) (w : World) (q : Call) (r : Request) (b : BlockValue) → c .strict ≡ true → PassesFive c w q r b
       → BadlyFormed b (length (r .payload)) → RefusesTo 10 h c w q
+  -- And 10 only then, in strict mode.
+  pub tenOnly : (c : Config) (w : World) (q : Call) (r : Request) → q .what ≡ request r → h c w q .answer ≡ Refused 10
+      → (c .strict ≡ true) × (b : BlockValue) × (requestBlock (r .block1) ≡ Given b) × BadlyFormed b (length (r .payload))
   -- Well formed and misplaced: 9.
   pub nine : (c : Config) (w : World) (q : Call) (r : Request) (b : BlockValue) → c .strict ≡ true → PassesFive c w q r b
       → (BadlyFormed b (length (r .payload)) → ⊥) → Misplaced (assembledFor c w q) b → RefusesTo 9 h c w q
+  -- And 9 only then, in strict mode.
+  pub nineOnly : (c : Config) (w : World) (q : Call) (r : Request) → q .what ≡ request r → h c w q .answer ≡ Refused 9
+      → (c .strict ≡ true) × (b : BlockValue) × (requestBlock (r .block1) ≡ Given b) × (BadlyFormed b (length (r .payload)) → ⊥) × Misplaced (assembledFor c w q) b
 
 -- ---- Cases, as rows of a table of their own (T 1152, U 64, bare 20). The block value of an answer is the reply's: its "more" is as negotiated, not as sent.
 

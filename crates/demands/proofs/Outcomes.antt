@@ -1,0 +1,135 @@
+-- What a request's step can come to, gone through once: what is promised of a request's answer is read off these cases. Assumes nothing.
+use Prim.Native.Nat.{ℕ, _+_, _*_, _≤_, _<_}
+use mathlib.Core.Bool.{true, false, not, _&&_}
+use mathlib.Core.Path.{_≡_, refl, sym, _∙_, ap}
+use mathlib.Core.List.{List}
+use native.Mathlib.Omega.{arith}
+use lib.ListN.{length}
+use lib.Dec.{leb, ltb}
+use borrow.Author.Tests.{not-false, ltb-false, leb-false}
+use Rattle.pieces.specs.Memory.{pieceOf}
+use Rattle.pieces.proofs.Tests.{on-test}
+use Rattle.splicing.specs.Splice.{spliceOf}
+use Rattle.splicing.specs.declared.Splice.{Splice}
+use Rattle.splicing.specs.declared.Splice.the-variants as splice
+use Rattle.block_value.specs.Value.{blockSize, blockStart}
+use Rattle.block_value.specs.declared.BlockValue.{BlockValue}
+use Rattle.negotiation.specs.Negotiation.{requestBlock}
+use Rattle.negotiation.specs.Chunk.{chunkOf}
+use Rattle.negotiation.specs.declared.MaybeBlock.{MaybeBlock}
+use Rattle.negotiation.specs.declared.MaybeBlock.the-variants.{Absent, Given}
+use Rattle.negotiation.specs.declared.Negotiated.{Negotiated}
+use Rattle.negotiation.specs.declared.Negotiated.the-variants as agreed
+use Rattle.negotiation.specs.declared.Chunk.{Chunk}
+use Rattle.negotiation.specs.declared.Chunk.the-variants as chunk
+use Rattle.block_state.specs.declared.Config.{Config}
+use Rattle.block_state.specs.declared.Cached.{Cached}
+use Rattle.block_state.specs.declared.BlockState.{BlockState}
+use Rattle.block_state.specs.declared.Part.{Part}
+use Rattle.block_state.specs.declared.Answer.{Answer}
+use Rattle.block_state.specs.declared.Answer.the-variants.{Continue, TooLarge, Handed, Pass, Served, Refused}
+use Rattle.block_state.specs.Message.{Request, request}
+use Rattle.block_state.specs.State.{keptWhile, withRecorded}
+use Rattle.block_state.specs.Step.{Left, left, bytesFrom}
+use Rattle.request_block2.specs.Block2 as block2
+use Rattle.request_block1.specs.Block1.{taken, onSplice, block1Given, badForm, notNext, lengthMet}
+use Rattle.request_step.specs.Step.{onNegotiated, stepRequest}
+use Rattle.places.specs.Places.{place, opened}
+use Rattle.block_handler.specs.Call.{World, Call, Done, done, callAt, rowOf, withinLimits, call}
+use Rattle.demands.specs.Agreed.{requestAgrees}
+
+module _ (c : Config) (away : ℕ) (s : BlockState) (u : List ℕ) (r : Request) where
+  -- block b was taken: it is the request's, a reply was agreed on, and strict mode's two tests let it pass
+  pub record TookBlock (b reply : BlockValue) : Type 0 where
+    pub given : requestBlock (r .block1) ≡ Given b
+    pub reached : requestAgrees c r ≡ agreed.Block reply
+    pub form : (c .strict && badForm b (length (r .payload))) ≡ false
+    pub next : (c .strict && notNext (s .assembled) b) ≡ false
+
+  -- the Block1 value that goes out, and the answer if nothing is served
+  pub data Block1 : MaybeBlock → Answer → Type 0 where
+    none : Block1 Absent Pass
+    took : (b reply : BlockValue) (body : Part) → TookBlock b reply → Block1 (Given reply) (Handed reply body)
+
+  -- why the step is refused with nothing changed
+  pub data Why : ℕ → Type 0 where
+    unagreed : (n : ℕ) → requestAgrees c r ≡ agreed.Refused n → Why n
+    badly : (b reply : BlockValue) → requestBlock (r .block1) ≡ Given b → requestAgrees c r ≡ agreed.Block reply
+        → (c .strict && badForm b (length (r .payload))) ≡ true → Why 10
+    astray : (b reply : BlockValue) → requestBlock (r .block1) ≡ Given b → requestAgrees c r ≡ agreed.Block reply
+        → (c .strict && badForm b (length (r .payload))) ≡ false → (c .strict && notNext (s .assembled) b) ≡ true → Why 9
+    unspliced : (b reply : BlockValue) (l n : ℕ) → TookBlock b reply → spliceOf (c .upload) l (blockStart b) (blockSize b) (length (r .payload)) ≡ splice.Refused n → Why n
+
+  pub data Outcome : Left → Type 0 where
+    refused : (n : ℕ) → Why n → Outcome (left s u (Refused n))
+    past : (t : BlockState) (v : List ℕ) (x : BlockValue) (n : ℕ) → t .cached ≡ s .cached → chunkOf x (s .cached .payload) ≡ chunk.Refused n → Outcome (left t v (Refused n))
+    tooLarge : (reply : BlockValue) → requestAgrees c r ≡ agreed.Block reply → Outcome (left s u (TooLarge reply))
+    continued : (t : BlockState) (v : List ℕ) (b reply : BlockValue) → TookBlock b reply → t .cached ≡ s .cached → Outcome (left t v (Continue reply))
+    onwards : (t : BlockState) (v : List ℕ) (block1 : MaybeBlock) (a : Answer) → Block1 block1 a → t .cached ≡ s .cached → Outcome (left t v a)
+    serves : (t : BlockState) (v : List ℕ) (block1 : MaybeBlock) (a : Answer) (x y : BlockValue) (from to : ℕ) → Block1 block1 a → s .cached .held ≡ true
+        → requestBlock (r .block2) ≡ Given x → chunkOf x (s .cached .payload) ≡ chunk.Bytes y from to → t .cached ≡ keptWhile (y .more) (s .cached)
+        → Outcome
+        (left t v (Served block1 y (bytesFrom away (s .cached .head)) (record { from = away + s .cached .head + from; to = away + s .cached .head + to })))
+
+  of-chunk : (t : BlockState) → t .cached ≡ s .cached → s .cached .held ≡ true → (v : List ℕ) (block1 : MaybeBlock) (a : Answer) → Block1 block1 a
+      → (x : BlockValue) → requestBlock (r .block2) ≡ Given x → (ch : Chunk) → chunkOf x (s .cached .payload) ≡ ch → Outcome (block2.served away t v block1 ch)
+  unfolding block2.served
+  of-chunk t e held v block1 a k x asks (chunk.Refused n) is = past t v x n e is
+  of-chunk t e held v block1 a k x asks (chunk.Bytes y from to) is = rw e (serves _ v block1 a x y from to k held asks is refl)
+
+  of-block2 : (t : BlockState) → t .cached ≡ s .cached → (v : List ℕ) (asked block1 : MaybeBlock) → requestBlock (r .block2) ≡ asked → (a : Answer) → Block1 block1 a
+      → Outcome (block2.onward away t v asked block1 a)
+  unfolding block2.onward
+  of-block2 t e v Absent block1 asks a k = onwards _ v block1 a k e
+  of-block2 t e v (Given x) block1 asks a k =
+      let same : chunkOf x (s .cached .payload) ≡ chunkOf x (t .cached .payload) = ap (λ (y : Cached). chunkOf x (y .payload)) (sym e) in
+      on-test Outcome (t .cached .held)
+      (λ held. of-chunk (withRecorded t (Given x)) e (sym (ap (λ (y : Cached). y .held) e) ∙ held) v block1 a k x asks (chunkOf x (t .cached .payload)) same)
+      (λ _. onwards _ v block1 a k e)
+
+  of-splice : (home : ℕ) (b reply : BlockValue) → TookBlock b reply → (l : ℕ) (sp : Splice)
+      → spliceOf (c .upload) l (blockStart b) (blockSize b) (length (r .payload)) ≡ sp
+      → Outcome (onSplice home away s u (requestBlock (r .block2)) (r .payload) b reply l sp)
+  unfolding onSplice taken
+  of-splice home b reply k l (splice.Refused n) is = refused n (unspliced b reply l n k is)
+  of-splice home b reply k l (splice.Body n) is =
+      on-test Outcome (b .more) (λ _. continued _ _ b reply k refl) (λ _. of-block2 _ refl _ (requestBlock (r .block2)) (Given reply) refl _ (took b reply _ k))
+
+  of-negotiated : (home : ℕ) (block1 : MaybeBlock) → requestBlock (r .block1) ≡ block1 → (n : Negotiated) → requestAgrees c r ≡ n
+      → Outcome (onNegotiated c home away s u (requestBlock (r .block2)) (r .payload) block1 n)
+  unfolding onNegotiated block1Given
+  of-negotiated home block1 given (agreed.Refused n) e = refused n (unagreed n e)
+  of-negotiated home block1 given agreed.NoBlock e = of-block2 s refl u (requestBlock (r .block2)) Absent refl Pass none
+  of-negotiated home Absent given (agreed.Block reply) e = tooLarge reply e
+  of-negotiated home (Given b) given (agreed.Block reply) e =
+      let l : ℕ = lengthMet (c .strict) (s .assembled) b in
+      on-test Outcome (c .strict && badForm b (length (r .payload))) (λ y. refused 10 (badly b reply given e y))
+      (λ form. on-test Outcome (c .strict && notNext (s .assembled) b) (λ y. refused 9 (astray b reply given e form y))
+      (λ next. of-splice home b reply (record { given = given; reached = e; form = form; next = next }) l
+      (spliceOf (c .upload) l (blockStart b) (blockSize b) (length (r .payload))) refl))
+
+  pub outcome : (home : ℕ) → Outcome (stepRequest c home away s u r)
+  unfolding stepRequest
+  outcome home = of-negotiated home (requestBlock (r .block1)) refl (requestAgrees c r) refl
+
+-- a call is refused by the first three checks, with nothing changed, or has its place
+pub early-or-placed : (P : Done → Type 0) (c : Config) (w : World) (q : Call) → ((n : ℕ) → n ≤ 3 → P (done w (Refused n)))
+    → (withinLimits c w q ≡ true → w .table .clock ≤ q .time → place (q .key) (rowOf c w q) < 16
+    → P (callAt c w (q .time) (rowOf c w q) (place (q .key) (rowOf c w q)) (opened (q .key) (rowOf c w q)) (q .what)))
+    → P (call c w q)
+unfolding call
+early-or-placed P c w q early placed =
+    on-test P (not (withinLimits c w q)) (λ _. early 1 (omega arith))
+    (λ ok. on-test P (ltb (q .time) (w .table .clock)) (λ _. early 2 (omega arith))
+    (λ time. on-test P (leb 16 (place (q .key) (rowOf c w q))) (λ _. early 3 (omega arith))
+    (λ room. placed (not-false (withinLimits c w q) ok) (ltb-false (q .time) (w .table .clock) time) (leb-false 16 (place (q .key) (rowOf c w q)) room))))
+
+-- so a request's answer is an early refusal, or that of an outcome on its key's state
+pub answered : (P : Answer → Type 0) (c : Config) (w : World) (q : Call) (r : Request) → q .what ≡ request r → ((n : ℕ) → n ≤ 3 → P (Refused n))
+    → ((away : ℕ) (u : List ℕ) (g : Left) → Outcome c away (opened (q .key) (rowOf c w q) .state) u r g → P (g .answer)) → P (call c w q .answer)
+unfolding callAt
+answered P c w q r e early step =
+    let i : ℕ = place (q .key) (rowOf c w q) in
+    let u : List ℕ = pieceOf (c .upload) i (w .upload) in
+    early-or-placed (λ (d : Done). P (d .answer)) c w q early
+    (λ ok later i16. rw e (step (i * c .response) u _ (outcome c (i * c .response) (opened (q .key) (rowOf c w q) .state) u r (i * c .upload))))

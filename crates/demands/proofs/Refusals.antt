@@ -1,0 +1,201 @@
+-- THE REFUSALS LEAVE WHAT DOCUMENT 01 SAYS. Assumes nothing.
+use Prim.Native.Nat.{ℕ, _+_, _-_, _*_, _≤_}
+use mathlib.Core.Bool.{false≢true}
+use mathlib.Core.Path.{_≡_, refl, sym, _∙_, ap}
+use mathlib.Core.Logic.{_⊎_, inl, inr, ⊎-elim}
+use mathlib.Core.List.{List}
+use native.Mathlib.Omega.{arith}
+use lib.ListN.{length}
+use lib.Dec.{leb, ltb}
+use Rattle.pieces.specs.Memory.{pieceOf}
+use Rattle.pieces.proofs.Tests.{on-test}
+use Rattle.splicing.specs.Splice.{spliceOf, splicedLength}
+use Rattle.splicing.specs.declared.Splice.{Splice}
+use Rattle.splicing.specs.declared.Splice.the-variants as splice
+use Rattle.block_value.specs.Value.{blockStart}
+use Rattle.block_value.specs.declared.BlockValue.{BlockValue}
+use Rattle.negotiation.specs.Negotiation.{negotiated}
+use Rattle.negotiation.specs.Chunk.{chunkOf}
+use Rattle.negotiation.specs.declared.Negotiated.{Negotiated}
+use Rattle.negotiation.specs.declared.Negotiated.the-variants as agreed
+use Rattle.negotiation.specs.declared.Chunk.{Chunk}
+use Rattle.negotiation.specs.declared.Chunk.the-variants as chunk
+use Rattle.block_state.specs.declared.Config.{Config}
+use Rattle.block_state.specs.declared.BlockState.{BlockState}
+use Rattle.block_state.specs.declared.Answer.{Answer}
+use Rattle.block_state.specs.declared.Answer.the-variants.{Refused}
+use Rattle.block_state.specs.Message.{Request, Response, What, request, response}
+use Rattle.block_state.specs.State.{recordedBlock}
+use Rattle.block_state.specs.Step.{Left, left}
+use Rattle.response_step.specs.Step.{chunked, onReply, stepResponse}
+use Rattle.block_table.specs.Table.{at}
+use Rattle.block_table.proofs.Row.{at-set-same}
+use Rattle.block_table.proofs.TableFits.{row-length}
+use Rattle.places.specs.Places.{place, opened}
+use Rattle.block_handler.specs.Call.{World, Call, Done, callAt, rowOf, call}
+use Rattle.block_handler.proofs.Frame.{world-fits}
+use Rattle.demands.specs.Demand3.{entryAt}
+use Rattle.demands.specs.Touch.{Placed, touched}
+use Rattle.demands.specs.Refusals.{RefusalsLeave}
+use Rattle.demands.proofs.Pairing.{refusal-number}
+use Rattle.demands.proofs.Outcomes.{Why, unagreed, badly, astray, unspliced, Outcome, refused, past, tooLarge, continued, onwards, serves, none, took, outcome, early-or-placed}
+use Rattle.demands.proofs.Touch.{made, refused-touches, response-touches}
+use Rattle.demands.specs.Pages.{isFirst}
+use Rattle.demands.proofs.Pages.{Storing, as-before, stores, storing}
+
+pub never : {A : Type 0} → _≡_ {A = ℕ} 0 1 → A
+never z = absurd (omega arith)
+
+pub same-number : (m n : ℕ) → Refused m ≡ Refused n → m ≡ n
+same-number m n e = cc
+
+-- ---- the numbers
+
+abbrev SixOrSeven : ℕ → Splice → Type 0
+SixOrSeven n sp = sp ≡ splice.Refused n → (n ≡ 6) ⊎ (n ≡ 7)
+
+pub splice-number : (u l a s p n : ℕ) → SixOrSeven n (spliceOf u l a s p)
+unfolding spliceOf
+splice-number u l a s p n =
+    on-test (SixOrSeven n) (ltb 16384 (a + s - l)) (λ _ e. let z : n ≡ 6 = cc in inl z)
+    (λ _. on-test (SixOrSeven n) (ltb u (splicedLength l a s p)) (λ _ e. let z : n ≡ 7 = cc in inr z) (λ _ e. never (cc)))
+
+pub chunk-number : (b : BlockValue) (m n : ℕ) → chunkOf b m ≡ chunk.Refused n → n ≡ 8
+unfolding chunkOf
+chunk-number b m n =
+    on-test (λ (ch : Chunk). ch ≡ chunk.Refused n → n ≡ 8) (leb m (blockStart b)) (λ _ e. cc) (λ _ e. never (cc))
+
+-- ---- a request's step that is refused: with nothing changed, or by a chunk past the end
+
+module _ (c : Config) (away : ℕ) (s : BlockState) (u : List ℕ) (r : Request) (n : ℕ) where
+  pub of-refusal : (P : Left → Type 0) → ((m : ℕ) → m ≡ n → Why c away s u r m → P (left s u (Refused m)))
+      → ((m : ℕ) → m ≡ n → n ≡ 8 → (t : BlockState) (v : List ℕ) → t .cached ≡ s .cached → P (left t v (Refused m)))
+      → (g : Left) → Outcome c away s u r g → g .answer ≡ Refused n → P g
+  of-refusal P why over g (refused m k) e = why m (same-number m n e) k
+  of-refusal P why over g (past t v x m k is) e = over m (same-number m n e) (sym (same-number m n e) ∙ chunk-number x _ m is) t v k
+  of-refusal P why over g (tooLarge reply k) e = never (cc)
+  of-refusal P why over g (continued t v b reply k h) e = never (cc)
+  of-refusal P why over g (onwards t v _ _ none h) e = never (cc)
+  of-refusal P why over g (onwards t v _ _ (took b reply body k) h) e = never (cc)
+  of-refusal P why over g (serves t v _ _ x y from to k held asks is h) e = never (cc)
+
+-- a step that leaves everything is refused with 4 to 10, and not with 8
+pub why-number : (c : Config) (away : ℕ) (s : BlockState) (u : List ℕ) (r : Request) (n : ℕ) → Why c away s u r n → (4 ≤ n) × (n ≤ 10) × (n ≡ 8 → ⊥)
+why-number c away s u r n (unagreed m e) =
+    ⊎-elim (λ (z : m ≡ 4). (omega arith, omega arith, λ y. omega arith)) (λ (z : m ≡ 5). (omega arith, omega arith, λ y. omega arith)) (refusal-number _ _ _ _ m e)
+why-number c away s u r n (badly b reply given e y) = (omega arith, omega arith, λ y. omega arith)
+why-number c away s u r n (astray b reply given e f y) = (omega arith, omega arith, λ y. omega arith)
+why-number c away s u r n (unspliced b reply l m k e) =
+    ⊎-elim (λ (z : m ≡ 6). (omega arith, omega arith, λ y. omega arith)) (λ (z : m ≡ 7). (omega arith, omega arith, λ y. omega arith)) (splice-number _ l _ _ _ m e)
+
+abbrev Late : ℕ → Left → Type 0
+Late n g = g .answer ≡ Refused n → (4 ≤ n) × (n ≤ 10)
+
+request-number : (c : Config) (away : ℕ) (s : BlockState) (u : List ℕ) (r : Request) (g : Left) → Outcome c away s u r g → (n : ℕ) → Late n g
+request-number c away s u r g o n =
+    of-refusal c away s u r n (λ g. (4 ≤ n) × (n ≤ 10)) (λ m z why. let k = why-number c away s u r m why in (omega arith, omega arith))
+    (λ m z y t v k. (omega arith, omega arith)) g o
+
+response-number : (c : Config) (s : BlockState) (d : List ℕ) (r : Response) (n : ℕ) → Late n (stepResponse c s d r)
+unfolding stepResponse onReply chunked
+response-number c s d r n =
+    on-test (Late n) (r .own) (λ _ e. never (cc))
+    (λ _. replied (negotiated (recordedBlock (s .recorded)) (r .bare) (length (r .payload)) (c .limit)) refl)
+  where
+    cut : (b : BlockValue) (ch : Chunk) → chunkOf b (length (r .payload)) ≡ ch → Late n (chunked c s d (r .head) (r .payload) ch)
+    cut b (chunk.Refused m) is = λ e. let z : m ≡ n = same-number m n e in let y = chunk-number b _ m is in (omega arith, omega arith)
+    cut b (chunk.Bytes y from to) is =
+        on-test (Late n) (y .more)
+        (λ _. on-test (Late n) (ltb (c .response) (length (r .head) + length (r .payload))) (λ _ e. let z : 7 ≡ n = same-number 7 n e in (omega arith, omega arith))
+        (λ _ e. never (cc)))
+        (λ _ e. never (cc))
+
+    replied : (g : Negotiated) → negotiated (recordedBlock (s .recorded)) (r .bare) (length (r .payload)) (c .limit) ≡ g
+        → Late n (onReply c s d (r .head) (r .payload) g)
+    replied (agreed.Refused m) is = λ e.
+        let z : m ≡ n = same-number m n e in
+        ⊎-elim (λ (y : m ≡ 4). (omega arith, omega arith)) (λ (y : m ≡ 5). (omega arith, omega arith)) (refusal-number _ _ _ _ m is)
+    replied agreed.NoBlock is = λ e. never (cc)
+    replied (agreed.Block b) is = cut b (chunkOf b (length (r .payload))) refl
+
+-- ---- what is left
+
+request-same : (c : Config) (away : ℕ) (s : BlockState) (u : List ℕ) (r : Request) (n : ℕ) → (n ≡ 8 → ⊥) → (g : Left) → Outcome c away s u r g → g .answer ≡ Refused n
+    → g ≡ left s u (Refused n)
+request-same c away s u r n no8 =
+    of-refusal c away s u r n (λ g. g ≡ left s u (Refused n)) (λ m z why. ap (λ (k : ℕ). left s u (Refused k)) z) (λ m z y t v k. absurd (no8 y))
+
+request-cache : (c : Config) (away : ℕ) (s : BlockState) (u : List ℕ) (r : Request) (n : ℕ) (g : Left) → Outcome c away s u r g → g .answer ≡ Refused n
+    → g .state .cached ≡ s .cached
+request-cache c away s u r n = of-refusal c away s u r n (λ g. g .state .cached ≡ s .cached) (λ m z why. refl) (λ m z y t v k. k)
+
+response-same : (c : Config) (s : BlockState) (d : List ℕ) (r : Response) (n : ℕ) (g : Left) → Storing c s d (r .head) (r .payload) g → g .answer ≡ Refused n → g ≡ left s d (Refused n)
+response-same c s d r n g (as-before a no-first) e = ap (λ (y : Answer). left s d y) e
+response-same c s d r n g (stores t a first is room) e = absurd (false≢true (ap isFirst (sym e) ∙ first))
+
+module _ (c : Config) (w : World) (q : Call) where
+  abbrev i : ℕ
+  i = place (q .key) (rowOf c w q)
+
+  abbrev s : BlockState
+  s = opened (q .key) (rowOf c w q) .state
+
+  abbrev u : List ℕ
+  u = pieceOf (c .upload) i (w .upload)
+
+  step-number : (x : What) (n : ℕ) → callAt c w (q .time) (rowOf c w q) i (opened (q .key) (rowOf c w q)) x .answer ≡ Refused n → (4 ≤ n) × (n ≤ 10)
+  unfolding callAt
+  step-number (request r) n = request-number c (i * c .response) s u r _ (outcome c (i * c .response) s u r (i * c .upload)) n
+  step-number (response r) n = response-number c s (pieceOf (c .response) i (w .response)) r n
+
+  ten-at-most : (n : ℕ) → call c w q .answer ≡ Refused n → n ≤ 10
+  ten-at-most n =
+      early-or-placed (λ (d : Done). d .answer ≡ Refused n → n ≤ 10) c w q (λ m h e. let z : m ≡ n = same-number m n e in omega arith)
+      (λ ok later i16 e. step-number (q .what) n e .1)
+
+  leaves-all : (n : ℕ) → call c w q .answer ≡ Refused n → n ≤ 3 → call c w q .world ≡ w
+  leaves-all n =
+      early-or-placed (λ (d : Done). d .answer ≡ Refused n → n ≤ 3 → d .world ≡ w) c w q (λ m h e k. refl)
+      (λ ok later i16 e k. absurd (omega (arith, step-number (q .what) n e .0)))
+
+  module _ (sixteen : length (w .table .entries) ≡ 16) (n : ℕ) (e : call c w q .answer ≡ Refused n) (late : 4 ≤ n) where
+    has-place : Placed c w q
+    has-place =
+        early-or-placed (λ (d : Done). d .answer ≡ Refused n → Placed c w q) c w q (λ m h e. let z : m ≡ n = same-number m n e in absurd (omega arith))
+        (λ ok later i16 e. record { limits = ok; sixteen = sixteen; clock = later; place = i16 }) e
+
+    of-request : (r : Request) → q .what ≡ request r → (n ≡ 8 → ⊥) → call c w q .world ≡ touched c w q
+    unfolding callAt
+    of-request r er no8 =
+        let step = rw (made c w q has-place, er) at e in
+        refused-touches c w q has-place r er n (request-same c (i * c .response) s u r n no8 _ (outcome c (i * c .response) s u r (i * c .upload)) step) .1
+
+    of-response : (r : Response) → q .what ≡ response r → call c w q .world ≡ touched c w q
+    unfolding callAt
+    of-response r er =
+        let d : List ℕ = pieceOf (c .response) i (w .response) in
+        let step = rw (made c w q has-place, er) at e in
+        response-touches c w q has-place r er n (response-same c s d r n _ (storing c s d r) step) .1
+
+    of-any : (x : What) → q .what ≡ x → (n ≡ 8 → ⊥) → call c w q .world ≡ touched c w q
+    of-any (request r) er no8 = of-request r er no8
+    of-any (response r) er no8 = of-response r er
+
+    keeps-cache : (r : Request) → q .what ≡ request r → entryAt (call c w q .world) i .state .cached ≡ s .cached
+    unfolding callAt
+    keeps-cache r er =
+        let f = world-fits c w q (has-place .limits) sixteen in
+        let long : length (rowOf c w q) ≡ 16 = row-length c (w .table) (q .time) (f .table) sixteen in
+        let step = rw (made c w q has-place, er) at e in
+        rw (made c w q has-place, er, at-set-same (rowOf c w q) i _ (omega (arith, has-place .place)))
+        (request-cache c (i * c .response) s u r n _ (outcome c (i * c .response) s u r (i * c .upload)) step)
+
+pub refusals-leave : RefusalsLeave call
+refusals-leave =
+    record {
+      ten = ten-at-most;
+      everything = leaves-all;
+      touch = λ c w q n sixteen e late no8. of-any c w q sixteen n e late (q .what) refl no8;
+      eight = λ c w q r sixteen er e. of-response c w q sixteen 8 e (omega arith) r er;
+      cache = λ c w q r sixteen er e. keeps-cache c w q sixteen 8 e (omega arith) r er;
+    }
