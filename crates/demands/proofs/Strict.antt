@@ -1,7 +1,7 @@
 -- STRICT MODE SAYS NO. Assumes nothing.
 use Prim.Native.Nat.{ℕ, _+_, _*_, _%_, _≤_}
-use mathlib.Core.Bool.{Bool, true, false, false≢true, not, _&&_, _||_}
-use mathlib.Core.Path.{_≡_, refl, sym, _∙_}
+use mathlib.Core.Bool.{Bool, true, false, cond, false≢true, not, _&&_, _||_}
+use mathlib.Core.Path.{_≡_, refl, sym, _∙_, ap}
 use mathlib.Core.Logic.{inl, inr, ⊎-elim}
 use mathlib.Core.List.{List, [], _∷_}
 use mathlib.Core.Option.{Option, none as no-option, some}
@@ -9,26 +9,34 @@ use native.Mathlib.Omega.{arith}
 use lib.ListN.{length}
 use lib.Dec.{ltb, eqb}
 use borrow.Author.Tests.{not-true, not-false, ltb-true, ltb-false, lt-ltb, eqb-true, eq-eqb, ne-eqb}
-use Rattle.pieces.proofs.Tests.{and-both, false-is-not, and-left, and-right, by-cases, clash-of, refute}
+use Rattle.pieces.proofs.Tests.{and-both, false-is-not, and-left, and-right, by-cases, on-test, clash-of, refute}
 use Rattle.block_value.specs.Value.{blockSize, blockStart, readOf}
 use Rattle.block_value.specs.declared.BlockValue.{BlockValue}
 use Rattle.negotiation.specs.Negotiation.{requestBlock}
-use Rattle.negotiation.specs.declared.MaybeBlock.the-variants.{Given}
+use Rattle.negotiation.specs.declared.MaybeBlock.{MaybeBlock}
+use Rattle.negotiation.specs.declared.MaybeBlock.the-variants.{Absent, Given}
+use Rattle.negotiation.specs.declared.Negotiated.{Negotiated}
+use Rattle.negotiation.specs.declared.Chunk.{Chunk}
+use Rattle.negotiation.specs.declared.Chunk.the-variants as chunk
 use Rattle.negotiation.specs.declared.Negotiated.the-variants as agreed
 use Rattle.block_state.specs.declared.Config.{Config}
 use Rattle.block_state.specs.declared.Assembled.{Assembled}
 use Rattle.block_state.specs.declared.BlockState.{BlockState}
 use Rattle.block_state.specs.declared.Answer.{Answer}
-use Rattle.block_state.specs.declared.Answer.the-variants.{Refused}
-use Rattle.block_state.specs.Message.{Request, request}
+use Rattle.block_state.specs.declared.Answer.the-variants.{Plain, Refused}
+use Rattle.block_state.specs.Message.{Request, Response, request, response}
 use Rattle.block_state.specs.Step.{Left, left}
-use Rattle.request_block1.specs.Block1.{badForm, notNext, block1Given}
-use Rattle.request_block1.proofs.Steps.{given-bad, given-not-next}
+use Rattle.request_block1.specs.Block1.{badForm, notNext, lengthMet, block1Given}
+use Rattle.request_block1.proofs.Steps.{given-bad, given-not-next, given-next}
+use Rattle.request_step.specs.Step.{onNegotiated, stepRequest}
 use Rattle.request_step.proofs.Steps.{request-given}
+use Rattle.response_step.specs.Step.{chunked, onReply, stepResponse}
 use Rattle.places.specs.Places.{opened}
-use Rattle.block_handler.specs.Call.{World, Call, rowOf, call}
+use Rattle.block_handler.specs.Call.{World, Call, callAt, rowOf, call}
 use Rattle.demands.specs.Touch.{RefusesTo}
-use Rattle.demands.specs.Strict.{tookBlock, assembledFor, RightlyTaken, BadlyFormed, Misplaced, PassesFive, StrictSaysNo}
+use Rattle.demands.specs.Strict.{tookBlock, assembledFor, RightlyTaken, BadlyFormed, Misplaced, PassesFive, plainly, Fine, StrictSaysNo}
+use Rattle.demands.proofs.OwnStep.{and-false}
+use Rattle.demands.proofs.Computes.{limits}
 use Rattle.demands.proofs.Outcomes.{TookBlock, Why, unagreed, badly, astray, unspliced, Outcome, refused, past, tooLarge, continued, onwards, serves, none, took, answered}
 use Rattle.demands.proofs.Touch.{refused-touches}
 use Rattle.demands.proofs.Pairing.{refusal-number}
@@ -210,6 +218,62 @@ module _ (c : Config) (w : World) (q : Call) (r : Request) (asks : q .what ≡ r
       answered (λ (a : Answer). a ≡ Refused 9 → Nine) c w q r asks (λ n h e. let z : n ≡ 9 = same-number n 9 e in absurd (omega arith))
       (λ away u g o. reason away _ u refl Nine 9 (λ e. omega arith) (why-nine away _ u refl) g o)
 
+-- ---- all else is as in plain mode
+
+met-is : (c : Config) (l : Assembled) (b : BlockValue) → (b .num ≡ 0 → l .len ≡ 0) → l .len ≡ lengthMet (c .strict) l b
+unfolding lengthMet
+met-is c l b h = on-test (λ n. l .len ≡ n) (c .strict && eqb (b .num) 0) (λ e. h (eqb-true (b .num) 0 (and-right (c .strict) _ e))) (λ _. refl)
+
+and-none : (a b : Bool) → b ≡ false → (a && b) ≡ false
+and-none a b e = rw e (and-false a)
+
+module _ (c : Config) (home away : ℕ) (s : BlockState) (u : List ℕ) where
+  given-same : (block2 : MaybeBlock) (payload : List ℕ) (b reply : BlockValue) → Fine (s .assembled) (length payload) b
+      → block1Given c home away s u block2 payload b reply ≡ block1Given (plainly c) home away s u block2 payload b reply
+  given-same block2 payload b reply f =
+      let next : notNext (s .assembled) b ≡ false = refute (notNext (s .assembled) b) (λ y. f .next (astray-as (s .assembled) b y)) in
+      given-next c home away s u block2 payload b reply (and-none (c .strict) _ (bad-not b (length payload) (f .well))) (and-none (c .strict) _ next)
+      (s .assembled .len) (met-is c (s .assembled) b (f .afresh))
+      ∙ sym (given-next (plainly c) home away s u block2 payload b reply refl refl (s .assembled .len) (met-is (plainly c) (s .assembled) b (f .afresh)))
+
+  on-same : (block2 : MaybeBlock) (payload : List ℕ) (block1 : MaybeBlock) (n : Negotiated) → ((b : BlockValue) → block1 ≡ Given b → Fine (s .assembled) (length payload) b)
+      → onNegotiated c home away s u block2 payload block1 n ≡ onNegotiated (plainly c) home away s u block2 payload block1 n
+  unfolding onNegotiated
+  on-same block2 payload block1 (agreed.Refused n) f = refl
+  on-same block2 payload block1 agreed.NoBlock f = refl
+  on-same block2 payload Absent (agreed.Block reply) f = refl
+  on-same block2 payload (Given b) (agreed.Block reply) f = given-same block2 payload b reply (f b refl)
+
+  step-same : (r : Request) → ((b : BlockValue) → requestBlock (r .block1) ≡ Given b → Fine (s .assembled) (length (r .payload)) b)
+      → stepRequest c home away s u r ≡ stepRequest (plainly c) home away s u r
+  unfolding stepRequest
+  step-same r f = on-same (requestBlock (r .block2)) (r .payload) (requestBlock (r .block1)) _ f
+
+all-else : (c : Config) (w : World) (q : Call) (r : Request) → q .what ≡ request r
+    → ((b : BlockValue) → requestBlock (r .block1) ≡ Given b → Fine (assembledFor c w q) (length (r .payload)) b) → call c w q ≡ call (plainly c) w q
+unfolding limits call callAt
+all-else c w q r e f = rw (e, step-same c _ _ (opened (q .key) (rowOf c w q) .state) _ r f)
+
+module _ (c : Config) (s : BlockState) (d : List ℕ) (r : Response) where
+  chunk-same : (ch : Chunk) → chunked c s d (r .head) (r .payload) ch ≡ chunked (plainly c) s d (r .head) (r .payload) ch
+  unfolding chunked
+  chunk-same (chunk.Refused n) = refl
+  chunk-same (chunk.Bytes b from to) = refl
+
+  reply-same : (n : Negotiated) → onReply c s d (r .head) (r .payload) n ≡ onReply (plainly c) s d (r .head) (r .payload) n
+  unfolding onReply
+  reply-same (agreed.Refused n) = refl
+  reply-same agreed.NoBlock = refl
+  reply-same (agreed.Block b) = chunk-same _
+
+  response-same : stepResponse c s d r ≡ stepResponse (plainly c) s d r
+  unfolding stepResponse
+  response-same = ap (λ (g : Left). cond (r .own) (left s d Plain) g) (reply-same _)
+
+of-responses : (c : Config) (w : World) (q : Call) (r : Response) → q .what ≡ response r → call c w q ≡ call (plainly c) w q
+unfolding limits call callAt
+of-responses c w q r e = rw (e, response-same c (opened (q .key) (rowOf c w q) .state) _ r)
+
 -- STRICT MODE SAYS NO
 pub strict-says-no : StrictSaysNo call
 strict-says-no =
@@ -219,4 +283,6 @@ strict-says-no =
       tenOnly = ten-only;
       nine = refuses-nine;
       nineOnly = nine-only;
+      allElse = all-else;
+      responses = of-responses;
     }

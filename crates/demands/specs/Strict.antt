@@ -17,7 +17,7 @@ use Rattle.block_state.specs.declared.Assembled.{Assembled}
 use Rattle.block_state.specs.declared.BlockState.{BlockState}
 use Rattle.block_state.specs.declared.Answer.{Answer}
 use Rattle.block_state.specs.declared.Answer.the-variants.{Continue, TooLarge, Handed, Pass, Served, Plain, Whole, First, Refused}
-use Rattle.block_state.specs.Message.{Request, request}
+use Rattle.block_state.specs.Message.{Request, Response, request, response}
 use Rattle.block_state.specs.State.{assembly, nothing, withAssembled}
 use Rattle.block_state.specs.Step.{bytesFrom}
 use Rattle.places.specs.Places.{opened}
@@ -73,6 +73,18 @@ pub record PassesFive (c : Config) (w : World) (q : Call) (r : Request) (b : Blo
   pub reply : BlockValue
   pub agreed : negotiated (Given b) (r .bare) (length (r .payload)) (c .limit) ≡ Block reply
 
+-- ---- All else
+
+-- The same configuration, in plain mode.
+abbrev pub plainly : Config → Config
+plainly c = record { strict = false; limit = c .limit; lifetime = c .lifetime; upload = c .upload; response = c .response }
+
+-- A block that strict mode has nothing to say of: well formed, not misplaced, and if it is block 0, over nothing assembled.
+pub record Fine (l : Assembled) (p : ℕ) (b : BlockValue) : Type 0 where
+  pub well : BadlyFormed b p → ⊥
+  pub next : Misplaced l b → ⊥
+  pub afresh : b .num ≡ 0 → l .len ≡ 0
+
 pub record StrictSaysNo (h : Handler) : Type 0 where
   -- Any answer that took a block took it rightly.
   pub taken : (c : Config) (w : World) (q : Call) (r : Request) → c .strict ≡ true → q .what ≡ request r → tookBlock (h c w q .answer) ≡ true
@@ -89,6 +101,10 @@ pub record StrictSaysNo (h : Handler) : Type 0 where
   -- And 9 only then, in strict mode.
   pub nineOnly : (c : Config) (w : World) (q : Call) (r : Request) → q .what ≡ request r → h c w q .answer ≡ Refused 9
       → (c .strict ≡ true) × (b : BlockValue) × (requestBlock (r .block1) ≡ Given b) × (BadlyFormed b (length (r .payload)) → ⊥) × Misplaced (assembledFor c w q) b
+  -- "All else is as in plain mode": a request with no Block1 value or a fine one, and any response, is answered and leaves just what it does in plain mode.
+  pub allElse : (c : Config) (w : World) (q : Call) (r : Request) → q .what ≡ request r
+      → ((b : BlockValue) → requestBlock (r .block1) ≡ Given b → Fine (assembledFor c w q) (length (r .payload)) b) → h c w q ≡ h (plainly c) w q
+  pub responses : (c : Config) (w : World) (q : Call) (r : Response) → q .what ≡ response r → h c w q ≡ h (plainly c) w q
 
 -- ---- Cases, as rows of a table of their own (T 1152, U 64, bare 20). The block value of an answer is the reply's: its "more" is as negotiated, not as sent.
 
