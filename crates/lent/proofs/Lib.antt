@@ -1,4 +1,5 @@
 pub mod Forms
 pub mod Sweeps
 pub mod Turns
+pub mod Lending
 pub mod Same

@@ -1,19 +1,21 @@
 // The lent forms of document 01: one key's entry by `&mut`, and the table's entries as a lent row.
-use block_state::Answer;
 use block_state::Config;
 use entries::Entry;
+use replies::Reply;
 ghost use mathlib.Core.Path.{_≡_};
-ghost use Rattle.block_state.specs.Contract.{asking};
+ghost use Rattle.block_state.specs.Contract.{asking, replying};
 ghost use Rattle.entries.specs.Entries.{holds};
 ghost use Rattle.block_table.specs.Table.{sweep};
 ghost use Rattle.places.specs.Places.{place};
-ghost use Rattle.lent.specs.Lent.{lent, roomFor, requestLent};
+ghost use Rattle.lent.specs.Lent.{requestLent, responseLent, Leaves};
 ghost use Rattle.lent.specs.Row.{firstOf, seenNext};
 
-// What a call leaves of an entry, and what it answers.
+mod steps;
+
+// What a call leaves of an entry, and its answer in numbers.
 pub struct Outcome {
     pub entry: Entry,
-    pub answer: Answer,
+    pub reply: Reply,
 }
 
 // What a walk has seen of the row so far: the first entry for the key and the first free one, each the number of entries seen if there is none;
@@ -24,80 +26,11 @@ pub struct Seen {
     pub place: usize,
 }
 
-fn refused(e: Entry) -> Outcome
-    ensures { λ r. ⌜ (r .entry ≡ e) × (r .answer ≡ Answer.Refused 1) ⌝ }
-{
-    let answer = Answer::Refused(1);
-    Outcome { entry: e, answer }
-}
-
-// The entry is in use, was not touched later, and its state is within the limits; the piece is of the configuration's size, and no place in a
-// memory overflows.
-fn room_for(config: Config, home: usize, away: usize, time: u64, e: Entry, n: usize) -> bool
-    ensures { λ r. ⌜ r ≡ roomFor config home away time e n ⌝ }
-{
-    let state = e.state;
-    (n == config.upload)
-        & (n < 4294967296)
-        & e.used
-        & (e.touched <= time)
-        & limits::state_ok(config, state)
-        & (home < 4294967296)
-        & (away < 4294967296)
-}
-
-// A request's step on an entry by value, where all that holds; else refusal 1.
-fn step_request<'a>(
-    e: Entry,
-    config: Config,
-    home: usize,
-    away: usize,
-    time: u64,
-    piece: &mut [u8],
-    bare: usize,
-    given1: bool,
-    block1: &'a [u8],
-    given2: bool,
-    block2: &'a [u8],
-    payload: &'a [u8],
-) -> Outcome
-    ensures { λ r. ⌜ lent (r .entry) (now (piece .exit)) (r .answer) ≡ requestLent config home away time e (now (piece .entry)) (asking bare given1 (now (block1 .entry)) given2 (now (block2 .entry)) (now (payload .entry))) ⌝ }
-{
-    let state = e.state;
-    if !room_for(config, home, away, time, e, piece.len()) {
-        return refused(e);
-    }
-    let step = request_step::step_request(
-        config,
-        home,
-        away,
-        state,
-        piece,
-        bare,
-        given1,
-        block1,
-        given2,
-        block2,
-        payload,
-    );
-    let key = e.key;
-    let left = step.state;
-    let answer = step.answer;
-    Outcome {
-        entry: Entry {
-            key: key,
-            used: true,
-            touched: time,
-            state: left,
-        },
-        answer,
-    }
-}
-
-// A request on an entry that is lent, in use for its key: as `find_and_free` left it, or a new key's by `entries::start_from`. Its state is stepped, and it is
-// touched. `home` and `away` are where the key's two pieces begin. The checks of a call (limits, clock, expiry, place) are the caller's to make first:
-// then nothing is refused here that a call would not refuse.
-pub fn request<'a>(
+// A request on an entry that is lent, in use for its key: as `block_handler_find_and_free` left it, or a new key's by `entries::start_from`. Its state is
+// stepped, and it is touched. `home` and `away` are where the key's two pieces begin. The checks of a call (limits, clock, expiry, place) are the caller's to
+// make first: then nothing is refused here that a call would not refuse.
+#[no_mangle]
+pub extern "C" fn block_handler_lent_request<'a>(
     e: &mut Entry,
     config: Config,
     home: usize,
@@ -110,11 +43,11 @@ pub fn request<'a>(
     given2: bool,
     block2: &'a [u8],
     payload: &'a [u8],
-) -> Answer
-    ensures { λ r. ⌜ lent (now (e .exit)) (now (piece .exit)) r ≡ requestLent config home away time (now (e .entry)) (now (piece .entry)) (asking bare given1 (now (block1 .entry)) given2 (now (block2 .entry)) (now (payload .entry))) ⌝ }
+) -> Reply
+    ensures { λ r. ⌜ Leaves (requestLent config home away time (now (e .entry)) (now (piece .entry)) (asking bare given1 (now (block1 .entry)) given2 (now (block2 .entry)) (now (payload .entry)))) (now (e .exit)) (now (piece .exit)) r ⌝ }
 {
     let old = *e;
-    let out = step_request(
+    let out = steps::request(
         old,
         config,
         home,
@@ -129,7 +62,27 @@ pub fn request<'a>(
         payload,
     );
     *e = out.entry;
-    out.answer
+    out.reply
+}
+
+// A response on an entry that is lent, as a request is: its piece is the key's of the response memory.
+#[no_mangle]
+pub extern "C" fn block_handler_lent_response<'a>(
+    e: &mut Entry,
+    config: Config,
+    time: u64,
+    piece: &mut [u8],
+    bare: usize,
+    own: bool,
+    head: &'a [u8],
+    payload: &'a [u8],
+) -> Reply
+    ensures { λ r. ⌜ Leaves (responseLent config time (now (e .entry)) (now (piece .entry)) (replying bare own (now (head .entry)) (now (payload .entry)))) (now (e .exit)) (now (piece .exit)) r ⌝ }
+{
+    let old = *e;
+    let out = steps::response(old, config, time, piece, bare, own, head, payload);
+    *e = out.entry;
+    out.reply
 }
 
 fn holds_key(e: Entry, key: &[u8]) -> bool
@@ -178,7 +131,13 @@ fn see(seen: Seen, i: usize, next: usize, e: Entry, key: &[u8]) -> Seen
 
 // The walk over a lent row of sixteen entries: frees every entry that is not live, and gives the place of the key among those that are left, or 16.
 // Check 1 and the clock are the caller's to see to first. Of a row of another length the place means nothing, and may be no entry's.
-pub fn find_and_free(entries: &mut [Entry], lifetime: u64, time: u64, key: &[u8]) -> usize
+#[no_mangle]
+pub extern "C" fn block_handler_find_and_free(
+    entries: &mut [Entry],
+    lifetime: u64,
+    time: u64,
+    key: &[u8],
+) -> usize
     ensures { λ r. ⌜ (now (entries .exit) ≡ sweep lifetime time (now (entries .entry))) × (r ≡ place (now (key .entry)) (sweep lifetime time (now (entries .entry)))) ⌝ }
 {
     let mut seen = Seen {

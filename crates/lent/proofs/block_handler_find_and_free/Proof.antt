@@ -65,11 +65,11 @@ use Rattle.entries.proofs.swept_entry.Met as swept-thm
 use Rattle.lent.proofs.see.Symbol as see-def
 use Rattle.lent.proofs.see.Symbol.{name as #see}
 use Rattle.lent.proofs.see.Met as see-thm
-use Rattle.lent.proofs.find_and_free.Key.{name as #self}
-use Rattle.lent.proofs.find_and_free as f
-use Rattle.lent.proofs.find_and_free.Statement as stated
-use Rattle.lent.proofs.find_and_free.Code as code
-use Rattle.lent.proofs.find_and_free.Code.Mir as body
+use Rattle.lent.proofs.block_handler_find_and_free.Key.{name as #self}
+use Rattle.lent.proofs.block_handler_find_and_free as f
+use Rattle.lent.proofs.block_handler_find_and_free.Statement as stated
+use Rattle.lent.proofs.block_handler_find_and_free.Code as code
+use Rattle.lent.proofs.block_handler_find_and_free.Code.Mir as body
 
 abbrev stayed : Stays (f.ended .signature .params) (f.ended .kept)
 stayed = (stay-slice (0 ∷ []) tt (plain (λ _. T.the-row)), (stay-none (λ _. u64) yes, (stay-none (λ _. u64) yes, (stay-none-slice (1 ∷ []) tt (plain (λ _. u8)) yes, tt))))
@@ -260,9 +260,9 @@ module _ {M : Type 1} (𝓤 : URA M) (H : Heap 𝓤) (A : Atoms 𝓤) (W : Given
   meets = walk-meets 𝓤 H A f.ended stayed W (goes-slice 𝓤 H A W 2 0 tt (plain (λ _. T.the-row)), (goes-none 𝓤 H A W 2 (λ _. u64) yes (λ κs x f. refl), (goes-none 𝓤 H A W 2 (λ _. u64) yes (λ κs x f. refl), (goes-none-slice 𝓤 H A W 2 (1 ∷ []) tt (plain (λ _. u8)) yes, tt)))) (f.clauses 𝓤 H A mem run)
       (WpFn 𝓤 H (𝓣 .C) (𝓣 .Λ) code.function) (WpFn-mono 𝓤 H (W .laws) 𝓣 code.function) walks
 
-pub find-and-free-spec : {M : Type 1} → stated.statement M
+pub block-handler-find-and-free-spec : {M : Type 1} → stated.statement M
 unfolding code.routine tablesOf
-find-and-free-spec 𝓤 H 𝓜 𝓖 𝓡 =
+block-handler-find-and-free-spec 𝓤 H 𝓜 𝓖 𝓡 =
     entered 𝓤 H (tripleOf 𝓤 H (𝓖 .A) f.signature (f.spec 𝓤 H (𝓖 .A) (𝓜 .mem) (𝓡 .run)))
     (tables 𝓤 H 𝓜 𝓡 code.env .C) (tables 𝓤 H 𝓜 𝓡 code.env .Λ) #self code.function (code.unfolded 𝓤 H 𝓜 𝓡)
     (meets 𝓤 H (𝓖 .A) (givenOf 𝓤 H 𝓜 𝓖) (𝓜 .mem) (𝓡 .run) (tablesOf 𝓤 H 𝓜 (tables 𝓤 H 𝓜 𝓡 code.env))

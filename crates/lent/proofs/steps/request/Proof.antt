@@ -1,0 +1,34 @@
+use mathlib.Core.Path.{sym, _∙_}
+use borrow.Author.Tests.{not-true, not-false}
+use Rattle.lent.proofs.Forms.{room-of, leaves-all, leaves-step}
+use borrow.Author.Needs.{needs}
+use Rattle.lent.proofs.steps.request.Statement.{statement}
+use Rattle.lent.proofs.steps.request.Tie as tie
+
+returns : tie.Need-returns
+returns c =
+    let no-room = c .before in
+    leaves-all _ _ _ _ _ _ _ (sym (no-room .before .request-room .ensures) ∙ not-true _ (no-room .if1 .taken)) (c .refused .ensures)
+
+step-request-requires : tie.Need-step-request-requires
+step-request-requires c κs =
+    let room = c .before .before in
+    room-of _ _ _ _ _ _ (sym (room .before .request-room .ensures) ∙ not-false _ (room .if1 .left))
+
+returns-2 : tie.Need-returns-2
+returns-2 c =
+    let stepped = c .before .before .before in
+    let room = stepped .before .before .before in
+    leaves-step _ _ _ _ _ _ _ _ _ _ (sym (room .before .request-room .ensures) ∙ not-false _ (room .if1 .left)) (stepped .step-request .ensures) (c .touched .ensures)
+
+pub request-spec : {M : Type 1} → statement M
+request-spec =
+    tie.close
+    (tie.spec
+    (λ c κs. search needs)
+    (λ c κs. search needs)
+    returns
+    step-request-requires
+    (λ c κs. search needs)
+    (λ c. search needs)
+    returns-2)

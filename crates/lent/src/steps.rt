@@ -1,0 +1,113 @@
+// A call's step on an entry by value, with the answer in numbers.
+use crate::Outcome;
+use block_state::Answer;
+use block_state::Config;
+use block_state::Stepped;
+use entries::Entry;
+ghost use mathlib.Core.Path.{_≡_};
+ghost use Rattle.block_state.specs.Contract.{asking, replying};
+ghost use Rattle.entries.specs.Entries.{inUse};
+ghost use Rattle.replies.specs.Reply.{replyOf};
+ghost use Rattle.lent.specs.Lent.{usable, requestRoom, responseRoom, requestLent, responseLent, Leaves};
+
+// The entry is in use, was not touched later, and its state is within the limits; the piece, of n bytes, is of this size.
+fn usable(config: Config, size: usize, time: u64, e: Entry, n: usize) -> bool
+    ensures { λ r. ⌜ r ≡ usable config size time e n ⌝ }
+{
+    let state = e.state;
+    (n == size) & (n < 4294967296) & e.used & (e.touched <= time) & limits::state_ok(config, state)
+}
+
+// Besides, no place in a memory overflows.
+fn request_room(config: Config, home: usize, away: usize, time: u64, e: Entry, n: usize) -> bool
+    ensures { λ r. ⌜ r ≡ requestRoom config home away time e n ⌝ }
+{
+    usable(config, config.upload, time, e, n) & (home < 4294967296) & (away < 4294967296)
+}
+
+// Besides, the head is not too long.
+fn response_room(config: Config, time: u64, e: Entry, n: usize, head: usize) -> bool
+    ensures { λ r. ⌜ r ≡ responseRoom config time e n head ⌝ }
+{
+    usable(config, config.response, time, e, n) & (head <= 128)
+}
+
+fn refused(e: Entry) -> Outcome
+    ensures { λ r. ⌜ (r .entry ≡ e) × (r .reply ≡ replyOf (Answer.Refused 1)) ⌝ }
+{
+    let reply = replies::reply_of(Answer::Refused(1));
+    Outcome { entry: e, reply }
+}
+
+// The entry is touched, and keeps its key.
+fn touched(e: Entry, time: u64, step: Stepped) -> Outcome
+    ensures { λ r. ⌜ (r .entry ≡ inUse (e .key) time (step .state)) × (r .reply ≡ replyOf (step .answer)) ⌝ }
+{
+    let answer = step.answer;
+    let reply = replies::reply_of(answer);
+    let key = e.key;
+    let state = step.state;
+    let entry = Entry {
+        key: key,
+        used: true,
+        touched: time,
+        state: state,
+    };
+    Outcome { entry, reply }
+}
+
+pub fn request<'a>(
+    e: Entry,
+    config: Config,
+    home: usize,
+    away: usize,
+    time: u64,
+    piece: &mut [u8],
+    bare: usize,
+    given1: bool,
+    block1: &'a [u8],
+    given2: bool,
+    block2: &'a [u8],
+    payload: &'a [u8],
+) -> Outcome
+    ensures { λ r. ⌜ Leaves (requestLent config home away time e (now (piece .entry)) (asking bare given1 (now (block1 .entry)) given2 (now (block2 .entry)) (now (payload .entry)))) (r .entry) (now (piece .exit)) (r .reply) ⌝ }
+{
+    if !request_room(config, home, away, time, e, piece.len()) {
+        return refused(e);
+    }
+    let state = e.state;
+    let step = request_step::step_request(
+        config,
+        home,
+        away,
+        state,
+        piece,
+        bare,
+        given1,
+        block1,
+        given2,
+        block2,
+        payload,
+    );
+    touched(e, time, step)
+}
+
+pub fn response<'a>(
+    e: Entry,
+    config: Config,
+    time: u64,
+    piece: &mut [u8],
+    bare: usize,
+    own: bool,
+    head: &'a [u8],
+    payload: &'a [u8],
+) -> Outcome
+    ensures { λ r. ⌜ Leaves (responseLent config time e (now (piece .entry)) (replying bare own (now (head .entry)) (now (payload .entry)))) (r .entry) (now (piece .exit)) (r .reply) ⌝ }
+{
+    if !response_room(config, time, e, piece.len(), head.len()) {
+        return refused(e);
+    }
+    let state = e.state;
+    let step = response_step::step_response(config, state, piece, bare, own, head, payload);
+    touched(e, time, step)
+}
