@@ -76,12 +76,15 @@ module _ {M : Type 1} (𝓤 : URA M) (H : Heap 𝓤) (A : Atoms 𝓤) (mem : Mem
   seen-of κ r i j h k r′ = exE 𝓤 _ (λ ws. snd∗ 𝓤 (sem 𝓤 H A (lasts g.ended (κ, tt) (r, (i, (j, (h, (k, tt))))) ws)) (fact 𝓤 (r′ ≡ seenNext r i j h (k .now))))
 
 module _ {M : Type 1} (𝓤 : URA M) (H : Heap 𝓤) (A : Atoms 𝓤) (W : Given 𝓤 H A) where
-  goes-swept : (mem : Memory → SProp 𝓤) (run : Routine → Fun 𝓤) (h : Entry) (u t : ℕ) → u < 2 ^ 64 → t < 2 ^ 64 → ent 𝓤 (sem 𝓤 H A (T.the-row .own h (mach h ∷ []))) (Swept 𝓤 H A mem run .pre (to-swept 𝓤 H A mem run h u t))
+  goes-swept : (mem : Memory → SProp 𝓤) (run : Routine → Fun 𝓤) (h : Entry) (u t : ℕ) → u < 2 ^ 64 → t < 2 ^ 64
+      → ent 𝓤 (sem 𝓤 H A (T.the-row .own h (mach h ∷ []))) (Swept 𝓤 H A mem run .pre (to-swept 𝓤 H A mem run h u t))
   goes-swept mem run h u t u-fits t-fits =
-      qed W (‵ (T.the-row .own h (mach h ∷ [])) ∷ []) ∵ nothing ! $ owned ! u64 (Is u64) (uint-makes 𝓤 H A W w64) t _ (refl, t-fits) $ fjoin ! $ owned ! u64 (Is u64) (uint-makes 𝓤 H A W w64) u _ (refl, u-fits) $ fjoin ! $
+      qed W (‵ (T.the-row .own h (mach h ∷ [])) ∷ []) ∵ nothing ! $ owned ! u64 (Is u64) (uint-makes 𝓤 H A W w64) t _ (refl, t-fits) $ fjoin ! $
+      owned ! u64 (Is u64) (uint-makes 𝓤 H A W w64) u _ (refl, u-fits) $ fjoin ! $
       move ! (1 ∷ 0 ∷ []) $ fjoin ! $ nothing ! $ join ! $ nothing ! $ move ! (1 ∷ 0 ∷ []) $ done !
 
-  goes-see : (mem : Memory → SProp 𝓤) (run : Routine → Fun 𝓤) (κ : Lft) (q : Share) (r : Seen) (i j : ℕ) (h : Entry) (w : Val) (k : RefT (List ℕ)) → Is Q.the-row r (sight r ∷ []) → i < 2 ^ 64 → j < 2 ^ 64 → Is T.the-row h (w ∷ [])
+  goes-see : (mem : Memory → SProp 𝓤) (run : Routine → Fun 𝓤) (κ : Lft) (q : Share) (r : Seen) (i j : ℕ) (h : Entry) (w : Val) (k : RefT (List ℕ))
+      → Is Q.the-row r (sight r ∷ []) → i < 2 ^ 64 → j < 2 ^ 64 → Is T.the-row h (w ∷ [])
       → ent 𝓤 (sep 𝓤 (A .lft κ q) (sem 𝓤 H A (Key κ k))) (See 𝓤 H A mem run .pre (to-see 𝓤 H A mem run κ q r i j h w k))
   goes-see mem run κ q r i j h w k r-is i-fits j-fits was =
       qed W (‵ (flft κ q) ∷ ‵ (Key κ k) ∷ []) ∵ nothing ! $ move ! (2 ∷ 0 ∷ []) $ fjoin ! $ owned ! T.the-row (Is T.the-row) (LL.makes T.the-type T′.the-plain 𝓤 H A) h _ was $ fjoin ! $
@@ -96,8 +99,10 @@ module _ {M : Type 1} {𝓤 : URA M} {H : Heap 𝓤} {A : Atoms 𝓤} {W : Given
         → ((v : Val) (r : Entry) → r ≡ swept u t h → Is T.the-row r (v ∷ []) → Seq K W (‵ (T.the-row .own r (v ∷ [])) ∷ Γ) (lands C Λ E p v more q))
         → Seq K W (‵ (T.the-row .own h (mach h ∷ [])) ∷ Γ) (runs C Λ E (seq (call #swept xs p) more) q)
     sweeps z mem run fm known h u t u-fits t-fits os k =
-        use1 W (raw (Swept 𝓤 H A mem run .pre (to-swept 𝓤 H A mem run h u t))) (goes-swept 𝓤 H A W mem run h u t u-fits t-fits) $ calls-at z fm (Swept 𝓤 H A mem run) known (to-swept 𝓤 H A mem run h u t) os (λ v.
-        use1 W (later (some (λ (r : Entry). (‵ ftrue ⊛ ‵ (T.the-row .own r (v ∷ []))) ⊛ raw (ensured 𝓤 H A s.ended (s.clauses 𝓤 H A mem run) tt (h, (u, (t, tt))) tt r)))) (id⊢ 𝓤 _) $ await z tt $ pick z (λ r.
+        use1 W (raw (Swept 𝓤 H A mem run .pre (to-swept 𝓤 H A mem run h u t))) (goes-swept 𝓤 H A W mem run h u t u-fits t-fits) $
+        calls-at z fm (Swept 𝓤 H A mem run) known (to-swept 𝓤 H A mem run h u t) os (λ v.
+        use1 W (later (some (λ (r : Entry). (‵ ftrue ⊛ ‵ (T.the-row .own r (v ∷ []))) ⊛ raw (ensured 𝓤 H A s.ended (s.clauses 𝓤 H A mem run) tt (h, (u, (t, tt))) tt r)))) (id⊢ 𝓤 _) $
+        await z tt $ pick z (λ r.
         split z $ move z (1 ∷ []) $ use1 W (raw (fact 𝓤 (r ≡ swept u t h))) (swept-of 𝓤 H A mem run h u t r) $ heard z (r ≡ swept u t h) (λ e. split z $ drop z $
         peeks z T.the-row (Is T.the-row) (shows 𝓤 H A T.the-row) r (v ∷ []) (λ is. k v r e is))))
 
@@ -110,7 +115,10 @@ module _ {M : Type 1} {𝓤 : URA M} {H : Heap 𝓤} {A : Atoms 𝓤} {W : Given
         use1 W (‵ (Key κ y) ⊛ ‵ (Key κ y)) (shr-slice-copy 𝓤 H A W (named 1) κ u8 .twice y (slice-vals y)) $ split z $ move z (2 ∷ 0 ∷ []) $
         use2 W (raw (See 𝓤 H A mem run .pre (to-see 𝓤 H A mem run κ share f i j h w y))) (goes-see 𝓤 H A W mem run κ share f i j h w y f-is i-fits j-fits was) $
         calls-at z fm (See 𝓤 H A mem run) known (to-see 𝓤 H A mem run κ share f i j h w y) os (λ v.
-        use1 W (later (some (λ (r : Seen). ((‵ (flft κ share) ⊛ ‵ ftrue) ⊛ ‵ (Q.the-row .own r (v ∷ []))) ⊛ raw (ensured 𝓤 H A g.ended (g.clauses 𝓤 H A mem run) (κ, tt) (f, (i, (j, (h, (y, tt))))) tt r)))) (id⊢ 𝓤 _) $ await z tt $ pick z (λ r.
-        split z $ move z (1 ∷ []) $ use1 W (raw (fact 𝓤 (r ≡ seenNext f i j h (y .now)))) (seen-of 𝓤 H A mem run κ f i j h y r) $ heard z (r ≡ seenNext f i j h (y .now)) (λ e. split z $ move z (1 ∷ []) $
+        use1 W (later (some (λ (r : Seen). ((‵ (flft κ share) ⊛ ‵ ftrue) ⊛ ‵ (Q.the-row .own r (v ∷ [])))
+        ⊛ raw (ensured 𝓤 H A g.ended (g.clauses 𝓤 H A mem run) (κ, tt) (f, (i, (j, (h, (y, tt))))) tt r)))) (id⊢ 𝓤 _) $ await z tt $ pick z (λ r.
+        split z $ move z (1 ∷ []) $ use1 W (raw (fact 𝓤 (r ≡ seenNext f i j h (y .now)))) (seen-of 𝓤 H A mem run κ f i j h y r) $
+        heard z (r ≡ seenNext f i j h (y .now)) (λ e. split z $ move z (1 ∷ []) $
         peeks z Q.the-row (Is Q.the-row) (shows 𝓤 H A Q.the-row) r (v ∷ []) (λ is. drop z $ split z $ move z (1 ∷ []) $ drop z $
-        subst (λ (u : Val). Seq K W (‵ (flft κ share) ∷ ‵ (Key κ y) ∷ Γ) (lands C Λ E p u more q)) (sym (ap only (LL.tells Q.the-type Q′.the-laws r (v ∷ []) is))) (k r e (subst (Is Q.the-row r) (LL.tells Q.the-type Q′.the-laws r (v ∷ []) is) is))))))
+        subst (λ (u : Val). Seq K W (‵ (flft κ share) ∷ ‵ (Key κ y) ∷ Γ) (lands C Λ E p u more q)) (sym (ap only (LL.tells Q.the-type Q′.the-laws r (v ∷ []) is)))
+        (k r e (subst (Is Q.the-row r) (LL.tells Q.the-type Q′.the-laws r (v ∷ []) is) is))))))
