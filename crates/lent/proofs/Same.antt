@@ -1,6 +1,6 @@
 -- A call on a lent entry is block_handler's call at its place: the same step, put back by the caller; and where the checks before it pass, it is the whole
 -- call. Assumes nothing.
-use Prim.Native.Nat.{ℕ, _+_, _*_, _≤_, _<_}
+use Prim.Native.Nat.{ℕ, _*_, _≤_, _<_}
 use mathlib.Core.Bool.{Bool, true, false}
 use mathlib.Core.Path.{_≡_, refl, _∙_}
 use mathlib.Core.List.{List}
