@@ -143,21 +143,17 @@ static struct block_handler_reply on_entry(struct block_handler_entry *e, size_t
         q->given1, q->block1.bytes, q->block1.len, q->given2, q->block2.bytes, q->block2.len, q->payload, q->payload_len);
 }
 
-/* Checks 2 and 3 are this caller's; every call here keeps to the limits, and so does the table. A refusal by them leaves everything, the row too. */
+/* Checks 2 and 3 are this caller's; every call here keeps to the limits, and so does the table. Where the walk finds no place, sixteen keys are live, and
+ * it freed nothing. */
 static struct block_handler_reply by_the_caller(const struct call *q)
 {
-    struct block_handler_reply refused = {.kind = BLOCK_HANDLER_REFUSED};
-    struct block_handler_table was = lent.table;
-    refused.refusal = BLOCK_HANDLER_CLOCK;
+    struct block_handler_reply refused = {.kind = BLOCK_HANDLER_REFUSED, .refusal = BLOCK_HANDLER_CLOCK};
     if (q->time < lent.table.clock)
         return refused;
     size_t place = block_handler_find_and_free(lent.table.entries, BLOCK_HANDLER_ENTRIES, LIFETIME, q->time, q->key, q->key_len);
-    CHECK(place <= BLOCK_HANDLER_ENTRIES);
-    if (place == BLOCK_HANDLER_ENTRIES) {
-        lent.table = was;
-        refused.refusal = BLOCK_HANDLER_FULL;
+    refused.refusal = BLOCK_HANDLER_FULL;
+    if (place >= BLOCK_HANDLER_ENTRIES)
         return refused;
-    }
     struct block_handler_entry *e = &lent.table.entries[place];
     if (!e->used)
         *e = started(q);
