@@ -1,10 +1,9 @@
 -- Demand 3 holds of whatever satisfies the contracts of the compiled calls. Assumes nothing.
 use mathlib.Core.Path.{_≡_, refl, sym, ap, subst}
 use mathlib.Core.List.{List, [], _∷_}
-use Rattle.block_state.specs.declared.Config.{Config}
-use Rattle.block_handler.specs.Call.{World, Call, Done, call}
-use Rattle.demands.specs.Demand3.{Handler, Seen, seen, run, callOn, Demand3}
-use Rattle.demands.specs.Compiled.{RequestEnsures, ResponseEnsures, BodyEnsures, RequestAsks, ResponseAsks, BodyAsks, KeepsContract, OfAllThatKeep, Ran, seenOf, Demand3OfRuns}
+use Rattle.block_handler.specs.Call.{call}
+use Rattle.demands.specs.Demand3.{Handler, Seen, seen, callOn, Demand3}
+use Rattle.demands.specs.Compiled.{RequestEnsures, ResponseEnsures, BodyEnsures, RequestAsks, ResponseAsks, BodyAsks, KeepsContract, OfAllThatKeep, RunsAreCalls, Demand3OfRuns}
 use Rattle.demands.proofs.Demand3.{demand3}
 
 -- ---- the contracts' own statements
@@ -36,16 +35,18 @@ of-all-that-keep Promise p h m = subst Promise (sym (λ i c w q. m c w q i)) p
 pub kept-demand3 : (h : Handler) → KeepsContract h → Demand3 h
 kept-demand3 = of-all-that-keep Demand3 demand3
 
--- what is seen of a run that keeps the contracts is what is seen of the definition's
-ran-is : (c : Config) (w : World) (calls : List Call) (results : List Done) → Ran c w calls results → seenOf calls results ≡ run call c w calls
-ran-is c w [] [] r = refl
-ran-is c w [] (d ∷ results) r = absurd r
-ran-is c w (q ∷ calls) [] r = absurd r
-ran-is c w (q ∷ calls) (d ∷ results) r =
+-- a run that keeps the contracts is the definition's
+pub runs-are-calls : RunsAreCalls
+unfolding RunsAreCalls
+runs-are-calls c w [] [] r = (refl, refl)
+runs-are-calls c w [] (d ∷ results) r = absurd r
+runs-are-calls c w (q ∷ calls) [] r = absurd r
+runs-are-calls c w (q ∷ calls) (d ∷ results) r =
     let e : d ≡ call c w q = r .0 in
-    rw (← e) (ap (λ (l : List Seen). seen q d ∷ l) (ran-is c (d .world) calls results (r .1)))
+    let rest = runs-are-calls c (d .world) calls results (r .1) in
+    rw (← e) (ap (λ (l : List Seen). seen q d ∷ l) (rest .0), rest .1)
 
 pub runs-demand3 : Demand3OfRuns
-unfolding Demand3OfRuns Demand3
+unfolding Demand3OfRuns RunsAreCalls Demand3
 runs-demand3 c w k x first rest later results g r =
-    rw (ran-is c w (callOn k first ∷ later) results r) (demand3 c w k x first rest later g)
+    rw (runs-are-calls c w (callOn k first ∷ later) results r .0) (demand3 c w k x first rest later g)

@@ -1,5 +1,5 @@
 -- SIXTEEN TRANSFERS CROSS, and mornings of them. Assumes nothing.
-use Prim.Native.Nat.{ℕ, _*_, _≤_, _<_}
+use Prim.Native.Nat.{ℕ, _≤_, _<_}
 use mathlib.Core.Bool.{true, false, cond, false≢true}
 use mathlib.Core.Path.{_≡_, refl, sym, _∙_, ap, subst}
 use mathlib.Core.List.{List, [], _∷_, _++_, map, append-nil, cons≢nil}
@@ -7,7 +7,7 @@ use native.Mathlib.Omega.{arith}
 use lib.ListN.{length, take, getD-replicate, take-append-drop}
 use lib.Seq.{take-at, drop-at}
 use lib.Dec.{leb}
-use borrow.Author.Tests.{leb-true, leb-false, lt-ltb, eqb-true}
+use borrow.Author.Tests.{leb-true, leb-false, lt-ltb}
 use Rattle.pieces.proofs.Tests.{ands, and-left, and-right, and-both, by-cases, clash-of, refute}
 use Rattle.block_state.specs.declared.Config.{Config}
 use Rattle.block_state.specs.declared.Assembled.{Assembled}
@@ -19,10 +19,9 @@ use Rattle.keys.proofs.Keys.{same-refl}
 use Rattle.entries.specs.Entries.{free, holds}
 use Rattle.entries.proofs.Entries.{holds-new}
 use Rattle.block_table.proofs.Row.{Unique}
-use Rattle.block_table.proofs.TableFits.{fresh-fits, row-length}
+use Rattle.block_table.proofs.TableFits.{row-length}
 use Rattle.places.specs.Places.{place, opened}
 use Rattle.places.proofs.Places.{opened-key}
-use Rattle.judge.specs.Limits.{memoriesOk}
 use Rattle.block_handler.specs.Call.{World, Call, done, whatOk, callAt, rowOf, withinLimits, call}
 use Rattle.block_handler.proofs.Frame.{WorldFits, fits-limits, call-fits, call-placed}
 use Rattle.demands.specs.Demand3.{Seen, seen, run, after, callsOn, seenOn, Sent, callOn, joined, Rising, All, AllBytes, entryAt}
@@ -30,7 +29,7 @@ use Rattle.demands.specs.Clocks.{OwnRising}
 use Rattle.demands.specs.Twice.{lastOf}
 use Rattle.demands.specs.Crossing.{inForm, counts, counted, seenCounted, UncountedRefused, among, AllAmong, FromFresh, Transfer, AllProper, callsOf, HandsAll}
 use Rattle.demands.specs.Crossing.{MorningsCross, SixteenCross, UncountedAreRefused}
-use Rattle.demands.proofs.Runs.{all-front, all-behind, seen-cut, none-seen, Cut, cut, rising-cut, rising-own, after-fits, after-clock}
+use Rattle.demands.proofs.Runs.{all-front, all-behind, seen-cut, none-seen, Cut, cut, rising-cut, rising-own, fresh-fits, after-fits, after-clock}
 use Rattle.demands.proofs.Held.{Held}
 use Rattle.demands.proofs.Push.{Pushed, ready-first, pass, push-from, each-block}
 use Rattle.demands.proofs.Sixteen.{call-entries, Over, over-call, over-after, has-place}
@@ -203,19 +202,7 @@ module _ (c : Config) (keys : List (List ℕ)) (few : length keys ≤ 16) where
 
 module _ (c : Config) (w : World) (keys : List (List ℕ)) (calls : List Call) (g : FromFresh c w keys calls) where
   at-fresh : (i : ℕ) → i < 16 → entryAt w i ≡ free
-  at-fresh i b = rw (g .fresh) (getD-replicate 16 i free free b)
-
-  fresh-world : WorldFits c w
-  unfolding memoriesOk
-  fresh-world =
-      let m = g .memories in
-      record {
-        config = g .config;
-        upload = eqb-true (length (w .upload)) (16 * c .upload) (search ands);
-        response = eqb-true (length (w .response)) (16 * c .response) (search ands);
-        sixteen = rw (g .fresh);
-        table = rw (g .fresh) (fresh-fits c);
-      }
+  at-fresh i b = rw (g .start .table) (getD-replicate 16 i free free b)
 
   fresh-over : Over keys w
   fresh-over i b u = absurd (false≢true (rw (at-fresh i b) at u))
@@ -224,12 +211,12 @@ module _ (c : Config) (w : World) (keys : List (List ℕ)) (calls : List Call) (
   fresh-idle k i b h = rw (at-fresh i b)
 
   fresh-clock : w .table .clock ≡ 0
-  fresh-clock = rw (g .fresh)
+  fresh-clock = rw (g .start .table)
 
   fresh-traceless : (seenCounted 0 calls (run call c w calls) ≡ run call c w (counted 0 calls)) × UncountedRefused call c w 0 calls
   fresh-traceless =
       subst (λ (t : ℕ). (seenCounted t calls (run call c w calls) ≡ run call c w (counted t calls)) × UncountedRefused call c w t calls) fresh-clock
-      (traceless c keys (g .sixteen) calls w fresh-world fresh-over (g .bytes) (rw fresh-clock (g .over)))
+      (traceless c keys (g .sixteen) calls w (fresh-fits c w (g .start)) fresh-over (g .bytes) (rw fresh-clock (g .over)))
 
 -- A MORNING OF PUSHES ON EACH KEY
 pub mornings-cross : MorningsCross call
@@ -238,7 +225,7 @@ mornings-cross c w keys calls g k pushes s =
     rw (fresh-traceless c w keys calls g .0)
     (one-by-one c k keys (g .sixteen) pushes w (counted 0 calls)
     (record {
-      fits = fresh-world c w keys calls g;
+      fits = fresh-fits c w (g .start);
       over = fresh-over c w keys calls g;
       idle = fresh-idle c w keys calls g k;
       rising = rw (fresh-clock c w keys calls g) (rising-own k 0 (counted 0 calls) (rising-counted 0 calls));

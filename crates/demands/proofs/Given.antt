@@ -2,11 +2,11 @@
 use Prim.Native.Nat.{ℕ, _+_, _≤_, _<_}
 use mathlib.Core.Bool.{Bool, true, false, _&&_, false≢true}
 use mathlib.Core.Path.{_≡_, refl, sym, _∙_, ap, subst}
-use mathlib.Core.Logic.{inr}
+use mathlib.Core.Logic.{inl, inr}
 use mathlib.Core.List.{List, [], _∷_, _++_, map}
 use mathlib.Core.Option.{none, some}
 use native.Mathlib.Omega.{arith}
-use lib.ListN.{length, getD-replicate}
+use lib.ListN.{length, replicate, getD-replicate}
 use lib.Dec.{ltb}
 use borrow.Author.Tests.{ltb-true}
 use Rattle.pieces.proofs.Tests.{and-left, and-right, clash-of}
@@ -21,9 +21,9 @@ use Rattle.demands.specs.Demand3.{callsOn, Sent, callOn, block, All, All
 use Rattle.demands.specs.Clocks.{GrantedOwn}
 use Rattle.demands.specs.Twice.{SentAgain}
 use Rattle.demands.specs.Crossing.{among, AllAmong, counted, callsOf, FromFresh, Sends}
-use Rattle.demands.specs.Strict.{PassesFive}
+use Rattle.demands.specs.Strict.{BadlyFormed, PassesFive}
 use Rattle.demands.specs.Pages.{lastStored}
-use Rattle.demands.specs.Shams.{config, fresh, key, firstBlock, lastBlock, later}
+use Rattle.demands.specs.Shams.{config, fresh, key, sent, firstBlock, lastBlock, later}
 use Rattle.demands.specs.Given.{large, lentWorld, full, sixteenMore, farAgain, keyOfByte, firstOf, nextOf, singleOf, pushesOf, onEach}
 use Rattle.demands.specs.Given.{bytes, backwards, refused, crossing, EachSends, goesBack, bothFaults, page, storing, asked, AllCanBeGiven}
 use Rattle.demands.proofs.Computes.{values, limits, calls}
@@ -105,6 +105,10 @@ within : (u d : List ℕ) → length u ≡ 262160 → length d ≡ 256 → withi
 unfolding limits
 within u d hu hd = rw (hu, hd)
 
+all-below : List ℕ → Bool
+all-below [] = true
+all-below (n ∷ l) = ltb n 256 && all-below l
+
 seventeen : Blocks large 6 (full 0x0E) sixteenMore
 unfolding values
 seventeen =
@@ -121,41 +125,17 @@ seventeen =
       prompt = (p, (p, (p, (p, (p, (p, (p, (p, (p, (p, (p, (p, (p, (p, (p, (p, tt))))))))))))))));
     }
 
+bytes-full : (options : List ℕ) → all-below options ≡ true → AllBytes (map (callOn key) (map full options))
+unfolding all-below
+bytes-full [] h = tt
+bytes-full (n ∷ l) h = (((ltb-true n 256 (and-left (ltb n 256) (all-below l) h), tt), tt), bytes-full l (and-right (ltb n 256) (all-below l) h))
+
 far-bytes : AllBytes (map (callOn key) (full 0x0E ∷ sixteenMore))
-far-bytes = (
-  b 0x0E refl,
-  (
-    b 0x1E refl,
-    (
-      b 0x2E refl,
-      (
-        b 0x3E refl,
-        (
-          b 0x4E refl,
-          (
-            b 0x5E refl,
-            (
-              b 0x6E refl,
-              (
-                b 0x7E refl,
-                (
-                  b 0x8E refl,
-                  (
-                    b 0x9E refl,
-                    (b 0xAE refl, (b 0xBE refl, (b 0xCE refl, (b 0xDE refl, (b 0xEE refl, (b 0xFE refl, (((omega arith, (omega arith, tt)), tt), tt))))))),
-                  ),
-                ),
-              ),
-            ),
-          ),
-        ),
-      ),
-    ),
-  ),
-)
-  where
-    b : (n : ℕ) → ltb n 256 ≡ true → WhatBytes (request (full n .message))
-    b n h = ((ltb-true n 256 h, tt), tt)
+unfolding all-below
+far-bytes =
+    let options : List ℕ = 0x0E ∷ 0x1E ∷ 0x2E ∷ 0x3E ∷ 0x4E ∷ 0x5E ∷ 0x6E ∷ 0x7E ∷ 0x8E ∷ 0x9E ∷ 0xAE ∷ 0xBE ∷ 0xCE ∷ 0xDE ∷ 0xEE ∷ 0xFE ∷ [] in
+    bytes-both (map (callOn key) (map full options)) (callOn key (sent 1 (0x01 ∷ 0x06 ∷ []) (9 ∷ [])) ∷ []) (bytes-full options refl)
+    (((omega arith, (omega arith, tt)), tt), tt)
 
 far-granted : (u d : List ℕ) → length u ≡ 262160 → length d ≡ 256 → GrantedOwn large (lentWorld u d) key 6 (full 0x0E) sixteenMore (map (callOn key) sixteenMore)
 unfolding keys.same
@@ -187,6 +167,24 @@ passes-five =
       agreed = refl;
     }
 
+-- the same, full: misplaced only
+passes-full : PassesFive (config true) fresh (callOn key (sent 5 (0x18 ∷ []) (replicate 16 2))) (sent 5 (0x18 ∷ []) (replicate 16 2) .message) (block 1 true 0)
+unfolding calls
+passes-full =
+    record {
+      asks = refl;
+      given = refl;
+      placed = record { limits = refl; sixteen = refl; clock = omega arith; place = omega arith };
+      reply = block 1 false 0;
+      agreed = refl;
+    }
+
+well-formed : BadlyFormed (block 1 true 0) 16 → ⊥
+unfolding values
+well-formed (inl e) = let z : _≡_ {A = ℕ} 0 7 = e in omega arith
+well-formed (inr (inl h)) = omega arith
+well-formed (inr (inr h)) = h .1 refl
+
 serves-it : (strict : Bool) → said (asked strict .answer) .kind ≡ served
 unfolding calls
 serves-it true = refl
@@ -206,9 +204,7 @@ crosses : (strict : Bool) → FromFresh (config strict) fresh (map keyOfByte byt
 unfolding limits every
 crosses strict =
     record {
-      fresh = refl;
-      config = refl;
-      memories = refl;
+      start = record { table = refl; config = refl; memories = refl };
       sixteen = omega arith;
       over = subst (AllAmong (map keyOfByte bytes)) (sym counted-is) (every-all (λ q. among (q .key) (map keyOfByte bytes)) counting refl);
       bytes = bytes-both (onEach firstOf bytes) (refused ++ (onEach nextOf backwards ++ onEach singleOf bytes))
@@ -218,51 +214,21 @@ crosses strict =
           (bytes-each singleOf (λ b. (tt, tt)) bytes)));
     }
 
-each-sends : (strict : Bool) → EachSends strict bytes
+-- each key's own calls that count are its two pushes
+abbrev Owns : List ℕ → Type 0
+Owns [] = Unit {0}
+Owns (b ∷ l) = (callsOn (keyOfByte b) counting ≡ callsOf (keyOfByte b) (pushesOf b)) × Owns l
+
+owns : Owns bytes
 unfolding keys.same
-each-sends strict = (
-  s 1 refl,
-  (
-    s 2 refl,
-    (
-      s 3 refl,
-      (
-        s 4 refl,
-        (
-          s 5 refl,
-          (
-            s 6 refl,
-            (
-              s 7 refl,
-              (
-                s 8 refl,
-                (
-                  s 9 refl,
-                  (
-                    s 10 refl,
-                    (
-                      s 11 refl,
-                      (
-                        s 12 refl,
-                        (
-                          s 13 refl,
-                          (s 14 refl, (s 15 refl, (s 16 refl, tt))),
-                        ),
-                      ),
-                    ),
-                  ),
-                ),
-              ),
-            ),
-          ),
-        ),
-      ),
-    ),
-  ),
-)
+owns = (refl, (refl, (refl, (refl, (refl, (refl, (refl, (refl, (refl, (refl, (refl, (refl, (refl, (refl, (refl, (refl, tt))))))))))))))))
+
+each-sends : (strict : Bool) → EachSends strict bytes
+each-sends strict = from bytes owns
   where
-    s : (b : ℕ) → callsOn (keyOfByte b) counting ≡ callsOf (keyOfByte b) (pushesOf b) → Sends (config strict) (keyOfByte b) crossing (pushesOf b)
-    s = sends strict
+    from : (l : List ℕ) → Owns l → EachSends strict l
+    from [] o = tt
+    from (b ∷ l) o = (sends strict b (o .0), from l (o .1))
 
 goes-back : (strict : Bool) → GrantedOwn (config strict) fresh key 0 firstBlock (lastBlock ∷ []) goesBack
 unfolding keys.same
@@ -309,6 +275,8 @@ all-can-be-given =
       five = passes-five;
       bad = inr (inr (refl, λ e. let z : _≡_ {A = ℕ} 15 16 = e in omega arith));
       misplaced = (λ e. let z : _≡_ {A = ℕ} 1 0 = e in omega arith, λ e. let z : _≡_ {A = ℕ} 16 0 = e .0 in omega arith);
+      astray = passes-full;
+      well = well-formed;
       serves = serves-it;
       stored = stored-it;
       chunk = chunk-it;

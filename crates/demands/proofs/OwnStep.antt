@@ -71,7 +71,7 @@ pub held-after : (u b : List ℕ) → take (length b) (patch u 0 b) ≡ b
 unfolding part
 held-after u b = part-patch u 0 b (omega arith)
 
-module _ (c : Config) (home at : ℕ) (s : BlockState) (u : List ℕ) (r : Request) (x j : ℕ) (m : Bool) (b : OneBlock c x j m r) where
+module _ (c : Config) (r : Request) (x j : ℕ) (m : Bool) (b : OneBlock c x j m r) where
   pub fills-most : length (r .payload) ≤ sizeOf x
   fills-most = most m (b .full)
     where
@@ -87,10 +87,11 @@ module _ (c : Config) (home at : ℕ) (s : BlockState) (u : List ℕ) (r : Reque
       well true e = rw (eq-eqb (length (r .payload)) (sizeOf x) e) (and-false (c .strict))
       well false h = and-false (c .strict)
 
+module _ (c : Config) (home at : ℕ) (s : BlockState) (u : List ℕ) (r : Request) (x j : ℕ) (m : Bool) (b : OneBlock c x j m r) where
   -- the step goes on with the block as it was sent, and with no more in the reply
   pub agrees : stepRequest c home at s u r ≡ block1Given c home at s u Absent (r .payload) (block j m x) (block j false x)
   agrees =
-      let reply = room-agreed j m x (r .bare) (length (r .payload)) (c .limit) (omega (arith, b .count)) (omega (arith, b .size)) fills-most (b .room) in
+      let reply = room-agreed j m x (r .bare) (length (r .payload)) (c .limit) (omega (arith, b .count)) (omega (arith, b .size)) (fills-most c r x j m b) (b .room) in
       request-given c home at s u r (Given (block j m x)) Absent (Block (block j false x)) (sym (b .numbered)) (sym (b .alone)) (sym reply) (block j m x) (block j false x) refl refl
 
   module _ (bytes : List ℕ) (meets : Meets c (s .assembled) u x j bytes) (fits : length (bytes ++ r .payload) ≤ c .upload) where
@@ -112,7 +113,7 @@ module _ (c : Config) (home at : ℕ) (s : BlockState) (u : List ℕ) (r : Reque
     reaches : stepRequest c home at s u r ≡ taken home at s (patch u 0 joins) Absent (block j m x) (block j false x) (length joins)
     reaches =
         agrees
-        ∙ given-next c home at s u Absent (r .payload) (block j m x) (block j false x) form-ok (meets .next m) (length bytes) (sym (meets .from m))
+        ∙ given-next c home at s u Absent (r .payload) (block j m x) (block j false x) (form-ok c r x j m b) (meets .next m) (length bytes) (sym (meets .from m))
         ∙ spliced-body home at s u Absent (r .payload) (block j m x) (block j false x) (length bytes) _ (length joins) body
         ∙ rw appended
 

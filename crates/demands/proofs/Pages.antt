@@ -9,10 +9,10 @@ use native.Mathlib.Omega.{arith}
 use lib.ListN.{length, set, take, drop, length-append, getD-replicate}
 use lib.Seq.{take-take, take-at, drop-at}
 use lib.Dec.{ltb, leb}
-use borrow.Author.Tests.{ltb-false, eqb-true}
+use borrow.Author.Tests.{ltb-false}
 use Rattle.pieces.specs.Memory.{patch, part as bytesIn, pieceOf, putPiece}
 use Rattle.pieces.proofs.Memory.{piece-order, length-piece, length-patch, piece-put-same, piece-put-other, patch-self, take-part, drop-part}
-use Rattle.pieces.proofs.Tests.{ands, by-cases, on-test, clash-of}
+use Rattle.pieces.proofs.Tests.{by-cases, on-test, clash-of}
 use Rattle.block_value.specs.Value.{blockStart}
 use Rattle.block_value.specs.declared.BlockValue.{BlockValue}
 use Rattle.negotiation.specs.Negotiation.{requestBlock, negotiated}
@@ -40,10 +40,9 @@ use Rattle.entries.specs.Entries.{free, inUse, holds, live, swept}
 use Rattle.entries.proofs.Entries.{holds-used, holds-new}
 use Rattle.block_table.specs.Table.{at}
 use Rattle.block_table.proofs.Row.{at-sweep, at-set}
-use Rattle.block_table.proofs.TableFits.{row-length, row-unique, fresh-fits}
+use Rattle.block_table.proofs.TableFits.{row-length, row-unique}
 use Rattle.places.specs.Places.{place, opened}
 use Rattle.places.proofs.Places.{opened-own, opened-new, opened-key, place-holds, others}
-use Rattle.judge.specs.Limits.{memoriesOk}
 use Rattle.answers.specs.Parts.{partOf, servedHead, servedChunk}
 use Rattle.answers.proofs.Served.{served-shows}
 use Rattle.block_handler.specs.Call.{World, Call, Done, callAt, rowOf, call}
@@ -51,7 +50,7 @@ use Rattle.block_handler.proofs.Frame.{WorldFits, call-cases, call-fits}
 use Rattle.demands.specs.Demand3.{after, AllBytes, entryAt}
 use Rattle.demands.proofs.OwnStep.{held-after}
 use Rattle.demands.proofs.Outcomes.{Outcome, refused, past, tooLarge, continued, onwards, serves, none as no-block1, took, outcome}
-use Rattle.demands.proofs.Runs.{after-fits}
+use Rattle.demands.proofs.Runs.{fresh-fits, after-fits}
 use Rattle.demands.proofs.Push.{shown-part}
 use Rattle.demands.specs.Pages.{Page, isFirst, storedBy, noted, lastStored, ShowsPage, ServesThePage}
 
@@ -257,8 +256,10 @@ module _ (c : Config) (w : World) (q : Call) (k : List ℕ) (p : Option Page) (f
         (entryAt (callAt c w (q .time) found here e x .world) i)
     unfolding callAt
     placed (request r) i i16 =
+        let away : ℕ = here * c .response in
+        let u : List ℕ = pieceOf (c .upload) here (w .upload) in
         rw (cond-same (same k (q .key)) p)
-        (put-back _ (stays c (here * c .response) (e .state) (pieceOf (c .upload) here (w .upload)) r _ (outcome c (here * c .response) (e .state) (pieceOf (c .upload) here (w .upload)) r (here * c .upload))) i i16)
+        (put-back _ (stays c away (e .state) u r _ (outcome c away (e .state) u r (here * c .upload))) i i16)
     placed (response r) i i16 = stored-entry r _ (storing c (e .state) (pieceOf (c .response) here (w .response)) r) i i16
 
   refused-noted : (n : ℕ) → noted k p q (Refused n) ≡ p
@@ -351,20 +352,12 @@ served-page c w q p r block1 b head part f known er =
 
 -- A CHUNK SERVED IS THE PAGE'S
 pub serves-the-page : ServesThePage call
-unfolding ServesThePage memoriesOk
-serves-the-page c w calls q r block1 b head part fresh config memories ab er e =
-    let f : WorldFits c w =
-    record {
-      config = config;
-      upload = eqb-true (length (w .upload)) (16 * c .upload) (search ands);
-      response = eqb-true (length (w .response)) (16 * c .response) (search ands);
-      sixteen = rw fresh;
-      table = rw fresh (fresh-fits c);
-    } in
-    let known : Known c w (q .key) none =
-    λ i i16 h held. absurd (false≢true (rw (at-fresh i i16) at held)) in
+unfolding ServesThePage
+serves-the-page c w calls q r block1 b head part fresh ab er e =
+    let f : WorldFits c w = fresh-fits c w fresh in
+    let known : Known c w (q .key) none = λ i i16 h held. absurd (false≢true (rw (at-fresh i i16) at held)) in
     served-page c (after call c w calls) q (lastStored call c w (q .key) none calls) r block1 b head part (after-fits c calls w f ab)
     (known-run c (q .key) calls w none f ab known) er e
   where
     at-fresh : (i : ℕ) → i < 16 → entryAt w i ≡ free
-    at-fresh i i16 = rw fresh (getD-replicate 16 i free free i16)
+    at-fresh i i16 = rw (fresh .table) (getD-replicate 16 i free free i16)

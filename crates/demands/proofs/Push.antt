@@ -49,9 +49,16 @@ use Rattle.demands.proofs.Held.{Held, held-place, held-opened, held-oth
 
 -- ---- an entry's place and its piece
 
-pub limit-most : (c : Config) → configOk c ≡ true → c .limit ≤ 65535
+limit-most : (c : Config) → configOk c ≡ true → c .limit ≤ 65535
 unfolding configOk
 limit-most c h = leb-true (c .limit) 65535 (search ands)
+
+-- a block's message is within the limits
+pub message-ok : (c : Config) (r : Request) (x j : ℕ) (m : Bool) → configOk c ≡ true → OneBlock c x j m r → whatOk (request r) ≡ true
+unfolding whatOk
+message-ok c r x j m ok b =
+    and-both (leb (r .bare) 65535) (leb (length (r .payload)) 65535) (le-leb (r .bare) 65535 (omega (arith, b .room, limit-most c ok)))
+    (le-leb (length (r .payload)) 65535 (omega (arith, fills-most c r x j m b, size-most x)))
 
 -- a row with an entry that is not in use has a place for every key
 place-free : (k : List ℕ) (l : List Entry) (i : ℕ) → length l ≡ 16 → i < 16 → at l i .used ≡ false → place k l < 16
@@ -133,16 +140,9 @@ module _ (c : Config) (w : World) (k : List ℕ) (x j : ℕ) (m : Bool) (s : Sen
   abbrev then : World
   then = call c w (callOn k s) .world
 
-  message-ok : whatOk (request (s .message)) ≡ true
-  unfolding whatOk
-  message-ok =
-      and-both (leb (s .message .bare) 65535) (leb (length (s .message .payload)) 65535)
-      (le-leb (s .message .bare) 65535 (omega (arith, b .room, limit-most c (g .fits .config))))
-      (le-leb (length (s .message .payload)) 65535 (omega (arith, fills-most c 0 0 (opened k entries .state) piece (s .message) x j m b, size-most x)))
-
   took : Took c (call c w (callOn k s)) here (s .time) (opened k entries .key)
       (stepRequest c (here * c .upload) (here * c .response) (opened k entries .state) piece (s .message))
-  took = request-took c w (callOn k s) (g .fits) named (g .later) (g .placed) (s .message) refl hb message-ok
+  took = request-took c w (callOn k s) (g .fits) named (g .later) (g .placed) (s .message) refl hb (message-ok c (s .message) x j m (g .fits .config) b)
 
   block-clock : then .table .clock ≡ s .time
   block-clock = took .clock

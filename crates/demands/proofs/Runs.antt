@@ -1,17 +1,21 @@
 -- Laws of runs: calls cut in two, calls that are not on a key, and what a run keeps. Assumes nothing.
-use Prim.Native.Nat.{ℕ, _≤_, max}
+use Prim.Native.Nat.{ℕ, _*_, _≤_, max}
 use mathlib.Core.Bool.{true}
 use mathlib.Core.Path.{_≡_, refl, ap}
 use mathlib.Core.List.{List, [], _∷_, _++_, nil≢cons, cons≢nil, head-eq-of-cons-eq, tail-eq-of-cons-eq}
 use native.Mathlib.Omega.{arith}
-use Rattle.pieces.proofs.Tests.{by-cases}
+use lib.ListN.{length}
+use borrow.Author.Tests.{eqb-true}
+use Rattle.pieces.proofs.Tests.{ands, by-cases}
 use Rattle.block_state.specs.declared.Config.{Config}
 use Rattle.block_state.specs.Message.{What, request, response}
 use Rattle.keys.specs.Keys.{same}
+use Rattle.block_table.proofs.TableFits as fits
 use Rattle.places.specs.Places.{place, opened}
+use Rattle.judge.specs.Limits.{memoriesOk}
 use Rattle.block_handler.specs.Call.{World, Call, callAt, rowOf, call}
 use Rattle.block_handler.proofs.Frame.{WorldFits, call-fits, call-cases}
-use Rattle.demands.specs.Demand3.{Handler, run, after, callsOn, seenOn, All, AllBytes, Rising}
+use Rattle.demands.specs.Demand3.{Handler, run, after, callsOn, seenOn, All, AllBytes, Rising, Fresh}
 use Rattle.demands.specs.Clocks.{OwnRising}
 
 -- ---- calls cut in two
@@ -78,7 +82,19 @@ rising-own k t (q ∷ calls) h =
     let latest : max t (q .time) ≡ q .time = omega (arith, h .0) in
     (λ y. h .0, rw latest (rising-own k (q .time) calls (h .1)))
 
--- ---- what a run of calls keeps
+-- ---- what a run of calls starts from, and keeps
+
+pub fresh-fits : (c : Config) (w : World) → Fresh c w → WorldFits c w
+unfolding memoriesOk
+fresh-fits c w g =
+    let m = g .memories in
+    record {
+      config = g .config;
+      upload = eqb-true (length (w .upload)) (16 * c .upload) (search ands);
+      response = eqb-true (length (w .response)) (16 * c .response) (search ands);
+      sixteen = rw (g .table);
+      table = rw (g .table) (fits.fresh-fits c);
+    }
 
 pub after-fits : (c : Config) (calls : List Call) (w : World) → WorldFits c w → AllBytes calls → WorldFits c (after call c w calls)
 after-fits c [] w f ab = f

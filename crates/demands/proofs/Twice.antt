@@ -7,16 +7,15 @@ use native.Mathlib.Nat.{zero-add}
 use native.Mathlib.Omega.{arith}
 use lib.ListN.{length, take, replicate, length-append, length-replicate, drop-of-length-le}
 use lib.Seq.{take-all}
-use lib.Dec.{leb, eqb}
-use borrow.Author.Tests.{ne-eqb, le-leb}
+use lib.Dec.{eqb}
+use borrow.Author.Tests.{ne-eqb}
 use Rattle.pieces.specs.Memory.{patch, pieceOf}
 use Rattle.pieces.proofs.Memory.{piece-order}
-use Rattle.pieces.proofs.Tests.{and-both}
 use Rattle.splicing.specs.Splice.{spliced, splicedLength, spliceOf, pieceAfter}
 use Rattle.splicing.specs.declared.Splice.the-variants.{Body}
 use Rattle.splicing.proofs.Splicing as splicing
 use Rattle.block_value.specs.Value.{sizeOf}
-use Rattle.block_value.proofs.Laws.{size-least, size-most}
+use Rattle.block_value.proofs.Laws.{size-least}
 use Rattle.negotiation.specs.declared.MaybeBlock.the-variants.{Absent, Given}
 use Rattle.block_state.specs.declared.Config.{Config}
 use Rattle.block_state.specs.declared.BlockState.{BlockState}
@@ -38,10 +37,10 @@ use Rattle.block_handler.proofs.Frame.{WorldFits, fits-limits, key-within, requ
 use Rattle.demands.specs.Demand3.{after, callsOn, Sent, callOn, block, Each, Fills, joined, All, AllBytes, entryAt}
 use Rattle.demands.specs.Touch.{Placed, RefusesTo, HandsTo}
 use Rattle.demands.specs.Twice.{lastOf, SentAgain, Twice}
-use Rattle.demands.proofs.OwnStep.{OneBlock, fills-most, form-ok, agrees, held-after, own-last, meets-first}
+use Rattle.demands.proofs.OwnStep.{OneBlock, form-ok, agrees, held-after, own-last, meets-first}
 use Rattle.demands.proofs.Runs.{all-behind, after-cut, cut, after-clock}
 use Rattle.demands.proofs.Held.{Held, held-place, held-opened, held-others}
-use Rattle.demands.proofs.Push.{limit-most, shown-part, Pushed, each-block, each-last}
+use Rattle.demands.proofs.Push.{message-ok, shown-part, Pushed, each-block, each-last}
 use Rattle.demands.proofs.Demand3.{pushed}
 use Rattle.demands.proofs.Touch.{refused-touches}
 
@@ -62,7 +61,7 @@ module _ (c : Config) (home at : ℕ) (s : BlockState) (u : List ℕ) (r : Reque
       let start : eqb a 0 ≡ false = ne-eqb a 0 (λ e. positive j h e) in
       let away : (c .strict && notNext (s .assembled) (block j false x)) ≡ true = rw (strict, none, num, start) in
       agrees c home at s u r x j false b
-      ∙ given-not-next c home at s u Absent (r .payload) (block j false x) (block j false x) (form-ok c home at s u r x j false b) away
+      ∙ given-not-next c home at s u Absent (r .payload) (block j false x) (block j false x) (form-ok c r x j false b) away
     where
       positive : (j : ℕ) → 1 ≤ j → j * sizeOf x ≡ 0 → ⊥
       positive (suc n) h e = omega (arith, size-least x)
@@ -182,9 +181,6 @@ module _ (c : Config) (w : World) (k : List ℕ) (x : ℕ) (first : Sent) (rest 
       let z : 0 + length rest ≡ length rest = zero-add (length rest) in
       rw (a .same) (rw z at (each-last (OneBlock c x) 0 first rest (each-block c x first rest (a .granted .push .blocks))))
 
-  most : length (again .message .payload) ≤ sizeOf x
-  most = fills-most c 0 0 from piece (again .message) x j false b
-
   bytes : WhatBytes (request (again .message))
   bytes = rw (a .same) (last-bytes k first rest later (a .granted .push .own) (a .granted .push .bytes))
 
@@ -192,11 +188,7 @@ module _ (c : Config) (w : World) (k : List ℕ) (x : ℕ) (first : Sent) (rest 
   body-fits = rw (a .same) (omega (arith, joined-length x 0 first rest (a .granted .push .blocks .full), a .granted .push .blocks .fits))
 
   ok : whatOk (request (again .message)) ≡ true
-  unfolding whatOk
-  ok =
-      and-both (leb (again .message .bare) 65535) (leb (length (again .message .payload)) 65535)
-      (le-leb (again .message .bare) 65535 (omega (arith, b .room, limit-most c (fits .config))))
-      (le-leb (length (again .message .payload)) 65535 (omega (arith, most, size-most x)))
+  ok = message-ok c (again .message) x j false (fits .config) b
 
   refuses : (n : ℕ) → stepRequest c (here * c .upload) (here * c .response) from piece (again .message) ≡ left from piece (Refused n)
       → RefusesTo n call c then q

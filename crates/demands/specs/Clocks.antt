@@ -1,6 +1,6 @@
 -- OTHER LANES' CLOCKS. Demand 3 asks that no call's time is before that of the call before it. Less will do: each call ON THE KEY is not before any call
--- that came ahead of it. Other keys' calls may go back as they like: they are refused (1 or 2) and change nothing. So demand 3 holds with them too. (A call that is
--- ahead of its time is another matter: it sets the clock, and whoever comes before that time is refused.)
+-- that came ahead of it. Other keys' calls may go back as they like: before the clock they are refused, and change nothing. So demand 3 holds with them too. (A call
+-- that is ahead of its time is another matter: it sets the clock, and whoever comes before that time is refused.)
 use Prim.Native.Nat.{ℕ, _≤_, max}
 use mathlib.Core.Bool.{true}
 use mathlib.Core.Path.{_≡_}

@@ -17,7 +17,7 @@ use Rattle.block_handler.specs.Call.{World, Call, Done, call}
 use Rattle.block_handler.specs.Contract.{world, requestCall, responseCall, Meant}
 use Rattle.block_handler.proofs.intercept_request
 use Rattle.block_handler.proofs.intercept_response
-use Rattle.demands.specs.Demand3.{Handler, Seen, seen, seenOn, Sent, callOn, joined, Granted, HandsOn}
+use Rattle.demands.specs.Demand3.{Handler, Seen, seen, run, after, seenOn, Sent, callOn, joined, Granted, HandsOn}
 
 -- ---- What the compiled calls ensure, and that they ask nothing
 
@@ -64,7 +64,7 @@ BodyAsks = (κs : Lfts 1) (a : ArgsD body.signature κs) → body.Reads.Asked κ
 -- ---- What holds of whatever keeps these contracts
 
 -- A handler every step of which is as the contracts say. (The compiled calls take tables and numbers of their types alone: what is tied to them
--- is `Demand3OfRuns` below.)
+-- is `RunsAreCalls` below.)
 abbrev pub KeepsContract : Handler → Type 0
 KeepsContract h = (c : Config) (w : World) (q : Call) → Meant c w q (h c w q .world) (h c w q .answer)
 
@@ -83,6 +83,17 @@ abbrev pub seenOf : List Call → List Done → List Seen
 seenOf [] results = []
 seenOf (q ∷ calls) [] = []
 seenOf (q ∷ calls) (d ∷ results) = seen q d ∷ seenOf calls results
+
+-- The table and memories that it leaves.
+abbrev pub endOf : World → List Done → World
+endOf w [] = w
+endOf w (d ∷ results) = endOf (d .world) results
+
+-- Every such run is the definition's: what is promised of the definition's runs is promised of it.
+unfoldable pub RunsAreCalls : Type 0
+RunsAreCalls =
+    (c : Config) (w : World) (calls : List Call) (results : List Done) → Ran c w calls results
+    → (seenOf calls results ≡ run call c w calls) × (endOf w results ≡ after call c w calls)
 
 -- Demand 3 of every such run.
 unfoldable pub Demand3OfRuns : Type 0

@@ -10,14 +10,12 @@ use lib.Dec.{leb}
 use Rattle.block_state.specs.declared.Config.{Config}
 use Rattle.block_state.specs.declared.Answer.the-variants.{Refused}
 use Rattle.keys.specs.Keys.{same, keyOk}
-use Rattle.block_table.specs.Table.{freshTable}
-use Rattle.judge.specs.Limits.{configOk, memoriesOk}
 use Rattle.block_handler.specs.Call.{World, Call, done, whatOk}
-use Rattle.demands.specs.Demand3.{Handler, Seen, run, callsOn, seenOn, Sent, callOn, joined, All, AllBytes, Blocks, HandsOn}
+use Rattle.demands.specs.Demand3.{Handler, Seen, run, callsOn, seenOn, Sent, callOn, joined, All, AllBytes, Fresh, Blocks, HandsOn}
 
 -- ---- Which calls count
 
--- The call's own key, bare, payload and head are within the limits: it gets no refusal 1 from a table and memories that are.
+-- The call's own key, bare, payload and head are within the limits: where configuration, table and memories are, it gets no refusal 1.
 abbrev pub inForm : Call → Bool
 inForm q = keyOk (q .key) && whatOk (q .what)
 
@@ -53,11 +51,9 @@ among k (y ∷ keys) = same k y || among k keys
 abbrev pub AllAmong : List (List ℕ) → List Call → Type 0
 AllAmong keys = All (λ q. among (q .key) keys ≡ true)
 
--- From a fresh table, with a configuration and memories within the limits: any calls at all, so long as those that count are over at most sixteen keys.
+-- From a fresh start: any calls at all, so long as those that count are over at most sixteen keys.
 pub record FromFresh (c : Config) (w : World) (keys : List (List ℕ)) (calls : List Call) : Type 0 where
-  pub fresh : w .table ≡ freshTable
-  pub config : configOk c ≡ true
-  pub memories : memoriesOk c (length (w .upload)) (length (w .response)) ≡ true
+  pub start : Fresh c w
   pub sixteen : length keys ≤ 16
   pub over : AllAmong keys (counted 0 calls)
   -- An option's bytes are below 256, as the types give it.

@@ -20,7 +20,8 @@ use Rattle.block_state.specs.Answers.{said, continue, handed}
 use Rattle.entries.specs.declared.Entry.{Entry}
 use Rattle.keys.specs.Keys.{same}
 use Rattle.entries.specs.Entries.{holds, live}
-use Rattle.block_table.specs.Table.{at}
+use Rattle.block_table.specs.Table.{at, freshTable}
+use Rattle.judge.specs.Limits.{configOk, memoriesOk}
 use Rattle.block_handler.specs.Call.{World, Call, Done, withinLimits}
 use Rattle.answers.specs.Parts.{bodyOf}
 
@@ -110,6 +111,12 @@ All P (q ∷ calls) = P q × All P calls
 
 abbrev pub AllBytes : List Call → Type 0
 AllBytes = All (λ q. WhatBytes (q .what))
+
+-- A fresh table, with a configuration and memories within the limits. (Demand 3 does not ask for it; other promises do.)
+pub record Fresh (c : Config) (w : World) : Type 0 where
+  pub table : w .table ≡ freshTable
+  pub config : configOk c ≡ true
+  pub memories : memoriesOk c (length (w .upload)) (length (w .response)) ≡ true
 
 -- ---- The key's entry, when its first block comes at this time
 

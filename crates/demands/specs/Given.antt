@@ -33,7 +33,7 @@ large = record { strict = false; limit = 1152; lifetime = 120000; upload = 16385
 abbrev pub lentWorld : List ℕ → List ℕ → World
 lentWorld u d = record { table = freshTable; upload = u; response = d }
 
--- Num b, exponent 6, more: the byte b * 16 + 14.
+-- A full block of 1,024 bytes whose Block1 option is this byte.
 abbrev pub full : ℕ → Sent
 full option = sent 1 (option ∷ []) (replicate 1024 0)
 
@@ -121,6 +121,8 @@ pub record AllCanBeGiven : Type 0 where
   pub five : PassesFive (config true) fresh (callOn key bothFaults) (bothFaults .message) (block 1 true 0)
   pub bad : BadlyFormed (block 1 true 0) (length (bothFaults .message .payload))
   pub misplaced : Misplaced (assembledFor (config true) fresh (callOn key bothFaults)) (block 1 true 0)
+  pub astray : PassesFive (config true) fresh (callOn key (sent 5 (0x18 ∷ []) (replicate 16 2))) (sent 5 (0x18 ∷ []) (replicate 16 2) .message) (block 1 true 0)
+  pub well : BadlyFormed (block 1 true 0) 16 → ⊥
   pub serves : (strict : Bool) → said (asked strict .answer) .kind ≡ served
   pub stored : (strict : Bool) → lastStored call (config strict) fresh key none storing ≡ some page
   pub chunk : (strict : Bool) → servedChunk (asked strict .answer) (asked strict .world .response) ≡ 68 ∷ []

@@ -5,7 +5,6 @@ use Prim.Native.Nat.{ℕ, _+_, _-_, _≤_}
 use mathlib.Core.Bool.{Bool, true, false}
 use mathlib.Core.Path.{_≡_}
 use mathlib.Core.List.{List, [], _∷_, _++_}
-use mathlib.Core.Option.{none, some}
 use lib.ListN.{length, take, replicate}
 use Rattle.pieces.specs.Memory.{part}
 use Rattle.block_value.specs.Value.{sizeOf}
@@ -21,6 +20,7 @@ use Rattle.request_step.specs.Step.{stepRequest}
 use Rattle.keys.specs.Keys.{stored}
 use Rattle.entries.specs.Entries.{inUse, free}
 use Rattle.block_handler.specs.Call.{World, Call, call}
+use Rattle.demands.specs.Shams.{sent}
 use Rattle.demands.specs.Demand3.{Handler, run, seenOn, Sent, callOn, block, joined, Rising, HasLive, Push, HandsOn}
 
 -- ---- Plain mode
@@ -66,14 +66,11 @@ cancelled =
       response = replicate 256 0;
     }
 
-abbrev pub sentAt : ℕ → List ℕ → List ℕ → Sent
-sentAt time option payload = record { time = time; message = record { bare = 20; block1 = some option; block2 = none; payload = payload } }
-
 abbrev pub newFirst : Sent
-newFirst = sentAt 6 (0x08 ∷ []) (replicate 16 2)
+newFirst = sent 6 (0x08 ∷ []) (replicate 16 2)
 
 abbrev pub newLast : Sent
-newLast = sentAt 7 (0x10 ∷ []) (replicate 16 3)
+newLast = sent 7 (0x10 ∷ []) (replicate 16 3)
 
 abbrev pub newList : List Call
 newList = callOn lane newFirst ∷ callOn lane newLast ∷ []

@@ -20,11 +20,9 @@ use Rattle.block_state.specs.declared.Answer.{Answer}
 use Rattle.block_state.specs.declared.Answer.the-variants.{Continue, TooLarge, Handed, Pass, Served, Plain, Whole, First, Refused}
 use Rattle.block_state.specs.Message.{Request, What, request, response}
 use Rattle.keys.specs.Keys.{same}
-use Rattle.block_table.specs.Table.{freshTable}
-use Rattle.judge.specs.Limits.{configOk, memoriesOk}
 use Rattle.answers.specs.Parts.{servedHead, servedChunk}
 use Rattle.block_handler.specs.Call.{World, Call}
-use Rattle.demands.specs.Demand3.{Handler, after, AllBytes}
+use Rattle.demands.specs.Demand3.{Handler, after, AllBytes, Fresh}
 
 -- ---- What First stored last for a key
 
@@ -51,7 +49,7 @@ storedBy (response r) a old = cond (isFirst a) (some (record { head = r .head; p
 abbrev pub noted : List ℕ → Option Page → Call → Answer → Option Page
 noted k old q a = cond (same k (q .key)) (storedBy (q .what) a old) old
 
--- The page of key k after these calls, each from what the call before it left.
+-- What First stored last for key k in these calls, also if it was dropped or expired since.
 abbrev pub lastStored : Handler → Config → World → List ℕ → Option Page → List Call → Option Page
 lastStored h c w k old [] = old
 lastStored h c w k old (q ∷ calls) = lastStored h c (h c w q .world) k (noted k old q (h c w q .answer)) calls
@@ -71,7 +69,7 @@ pub record ShowsPage (r : Request) (b : BlockValue) (stored : Option Page) (head
 unfoldable pub ServesThePage : Handler → Type 0
 ServesThePage h =
     (c : Config) (w : World) (calls : List Call) (q : Call) (r : Request) (block1 : MaybeBlock) (b : BlockValue) (head chunk : Part)
-    → w .table ≡ freshTable → configOk c ≡ true → memoriesOk c (length (w .upload)) (length (w .response)) ≡ true → AllBytes calls
+    → Fresh c w → AllBytes calls
     → q .what ≡ request r → h c (after h c w calls) q .answer ≡ Served block1 b head chunk
     → ShowsPage r b (lastStored h c w (q .key) none calls)
     (servedHead (h c (after h c w calls) q .answer) (h c (after h c w calls) q .world .response))

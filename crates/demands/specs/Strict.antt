@@ -18,12 +18,13 @@ use Rattle.block_state.specs.declared.BlockState.{BlockState}
 use Rattle.block_state.specs.declared.Answer.{Answer}
 use Rattle.block_state.specs.declared.Answer.the-variants.{Continue, TooLarge, Handed, Pass, Served, Plain, Whole, First, Refused}
 use Rattle.block_state.specs.Message.{Request, Response, request, response}
+use Rattle.block_state.specs.Answers.{said}
 use Rattle.block_state.specs.State.{assembly, nothing, withAssembled}
 use Rattle.block_state.specs.Step.{bytesFrom}
 use Rattle.places.specs.Places.{opened}
 use Rattle.block_handler.specs.Call.{World, Call, rowOf}
 use Rattle.demands.specs.Demand3.{Handler, block}
-use Rattle.demands.specs.Cases.{Row, answers, step}
+use Rattle.demands.specs.Cases.{Row, answers, number, step}
 use Rattle.demands.specs.Touch.{Placed, RefusesTo}
 
 -- The answer took a block: Continue, Handed, or a Served that carries Block1 too.
@@ -130,4 +131,9 @@ strictCases =
     ∷ answers (step true nothing (replicate 64 1) (0x08 ∷ []) (replicate 15 2) .answer) (Refused 10)
     -- Both faults at once: nothing assembled, num 1, marked and short. Refusal 10, not 9.
     ∷ answers (step true nothing (replicate 64 1) (0x18 ∷ []) (replicate 15 2) .answer) (Refused 10)
+    -- "In either mode that of the last block taken": plain mode, too, keeps the exponent of a block of 32 bytes.
+    ∷ number (step false nothing (replicate 64 1) (0x09 ∷ []) (replicate 32 2) .state .assembled .exponent) 1
+    -- Refusal 9 is 4.08, and 10 is 4.00.
+    ∷ number (said (Refused 9) .code) 136
+    ∷ number (said (Refused 10) .code) 128
     ∷ []

@@ -2,14 +2,13 @@
 use Prim.Native.Nat.{ℕ, _≤_, _<_}
 use mathlib.Core.Bool.{true}
 use mathlib.Core.Path.{_≡_}
-use mathlib.Core.List.{List}
+use mathlib.Core.List.{List, [], _∷_}
 use lib.ListN.{length}
 use Rattle.block_state.specs.declared.Config.{Config}
 use Rattle.block_state.specs.declared.Answer.the-variants.{Refused}
-use Rattle.block_state.specs.Answers.{said, handed}
 use Rattle.places.specs.Places.{place, opened}
 use Rattle.block_handler.specs.Call.{World, Call, rowOf, tableAfter, withinLimits}
-use Rattle.demands.specs.Demand3.{Handler, seen}
+use Rattle.demands.specs.Demand3.{Handler, seen, HandsOn}
 
 -- A call that passes checks 1 to 3: within the limits, not before the clock, with a place. (That a table has sixteen entries is given by its type.)
 pub record Placed (c : Config) (w : World) (q : Call) : Type 0 where
@@ -34,4 +33,4 @@ RefusesTo n h c w q = (h c w q .answer ≡ Refused n) × (h c w q .world ≡ tou
 
 -- The call hands on these bytes.
 abbrev pub HandsTo : List ℕ → Handler → Config → World → Call → Type 0
-HandsTo bytes h c w q = (said (h c w q .answer) .kind ≡ handed) × (seen q (h c w q) .shown ≡ bytes)
+HandsTo bytes h c w q = HandsOn bytes (seen q (h c w q) ∷ [])

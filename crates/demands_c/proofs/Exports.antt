@@ -10,14 +10,10 @@ use Rattle.block_handler.specs.Call.{World, Call, call}
 use Rattle.replies.specs.Reply.{replyOf, kindNumber}
 use Rattle.replies.proofs.Shown.{body-bytes}
 use Rattle.handler_c.specs.Contract.{Replies}
-use Rattle.demands.specs.Demand3.{Seen, seen, run, seenOn, payloadOf, callOn, joined, HandsOn}
+use Rattle.demands.specs.Demand3.{Seen, seen, run, after, seenOn, payloadOf, callOn, joined, HandsOn}
 use Rattle.demands.specs.Clocks.{Demand3Own}
 use Rattle.demands.proofs.Demand3.{demand3-own}
-use Rattle.demands_c.specs.Exports.{Returned, RanInC, SeenInC, seenInC, seenOfC, seenOnInC, HandsOnInC, Demand3InC, DeterminedInC}
-
--- what C sees of what was seen
-abbrev inC : Seen → SeenInC
-inC s = record { key = s .key; kind = kindNumber (said (s .answer) .kind); shown = s .shown }
+use Rattle.demands_c.specs.Exports.{Returned, SeenInC, seenInC, inC, RunsAreCallsInC, seenOnInC, HandsOnInC, Demand3InC, DeterminedInC}
 
 seen-in-C : (c : Config) (w : World) (q : Call) (d : Returned) → Replies c w q (d .world) (d .reply) → seenInC q d ≡ inC (seen q (call c w q))
 seen-in-C c w q d m =
@@ -26,15 +22,17 @@ seen-in-C c w q d m =
     ∙ ap (λ (b : List ℕ). record { key = q .key; kind = kindNumber (said (call c w q .answer) .kind); shown = b })
     (body-bytes (call c w q .answer) (payloadOf (q .what)) (call c w q .world .upload))
 
-ran-in-C : (c : Config) (w : World) (calls : List Call) (results : List Returned) → RanInC c w calls results
-    → seenOfC calls results ≡ map inC (run call c w calls)
-ran-in-C c w [] [] r = refl
-ran-in-C c w [] (d ∷ results) r = absurd r
-ran-in-C c w (q ∷ calls) [] r = absurd r
-ran-in-C c w (q ∷ calls) (d ∷ results) r =
+pub runs-are-calls-in-C : RunsAreCallsInC
+unfolding RunsAreCallsInC
+runs-are-calls-in-C c w [] [] r = (refl, refl)
+runs-are-calls-in-C c w [] (d ∷ results) r = absurd r
+runs-are-calls-in-C c w (q ∷ calls) [] r = absurd r
+runs-are-calls-in-C c w (q ∷ calls) (d ∷ results) r =
     let v : d .world ≡ call c w q .world = r .0 .0 in
-    let rest : seenOfC calls results ≡ map inC (run call c (call c w q .world) calls) = ran-in-C c (d .world) calls results (r .1) ∙ ap (λ (w : World). map inC (run call c w calls)) v in
-    ap₂ _∷_ (seen-in-C c w q d (r .0)) rest
+    let rest = runs-are-calls-in-C c (d .world) calls results (r .1) in (
+      ap₂ _∷_ (seen-in-C c w q d (r .0)) (rest .0 ∙ ap (λ (w : World). map inC (run call c w calls)) v),
+      rest .1 ∙ ap (λ (w : World). after call c w calls) v,
+    )
 
 seen-on-in-C : (k : List ℕ) (l : List Seen) → seenOnInC k (map inC l) ≡ map inC (seenOn k l)
 seen-on-in-C k [] = refl
@@ -47,9 +45,9 @@ hands-on-in-C bytes (s ∷ []) h = (ap kindNumber (h .0), h .1)
 hands-on-in-C bytes (s ∷ t ∷ l) h = (ap kindNumber (h .0), hands-on-in-C bytes (t ∷ l) (h .1))
 
 pub demand3-in-C : Demand3InC
-unfolding Demand3InC Demand3Own
+unfolding Demand3InC RunsAreCallsInC Demand3Own
 demand3-in-C c w k x first rest later results g r =
-    rw (ran-in-C c w (callOn k first ∷ later) results r, seen-on-in-C k (run call c w (callOn k first ∷ later)))
+    rw (runs-are-calls-in-C c w (callOn k first ∷ later) results r .0, seen-on-in-C k (run call c w (callOn k first ∷ later)))
     (hands-on-in-C (joined first rest) (seenOn k (run call c w (callOn k first ∷ later))) (demand3-own c w k x first rest later g))
 
 pub determined-in-C : DeterminedInC
