@@ -8,30 +8,35 @@ use lib.ListN.{length, take, getD-replicate, take-append-drop}
 use lib.Seq.{take-at, drop-at}
 use lib.Dec.{leb}
 use borrow.Author.Tests.{leb-true, leb-false, lt-ltb}
-use Rattle.pieces.proofs.Tests.{ands, and-left, and-right, and-both, by-cases, clash-of, refute}
+use Rattle.pieces.proofs.Tests.{ands, and-left, and-right, and-both, by-cases, on-test, clash-of, refute}
 use Rattle.block_state.specs.declared.Config.{Config}
 use Rattle.block_state.specs.declared.Assembled.{Assembled}
+use Rattle.block_state.specs.declared.BlockState.{BlockState}
 use Rattle.block_state.specs.declared.Answer.the-variants.{Refused}
-use Rattle.block_state.specs.Message.{What, request, response}
+use Rattle.block_state.specs.Message.{Response, What, request, response}
 use Rattle.block_state.specs.State.{assembly}
+use Rattle.response_step.specs.Step.{stepResponse}
+use Rattle.pieces.specs.Memory.{pieceOf}
 use Rattle.keys.specs.Keys.{same, keyOk}
-use Rattle.keys.proofs.Keys.{same-refl}
-use Rattle.entries.specs.Entries.{free, holds}
+use Rattle.keys.proofs.Keys.{same-eq}
+use Rattle.entries.specs.declared.Entry.{Entry}
+use Rattle.entries.specs.Entries.{free, holds, live, swept}
 use Rattle.entries.proofs.Entries.{holds-new}
-use Rattle.block_table.proofs.Row.{Unique}
+use Rattle.block_table.proofs.Row.{Unique, at-sweep, at-set}
 use Rattle.block_table.proofs.TableFits.{row-length}
 use Rattle.places.specs.Places.{place, opened}
 use Rattle.places.proofs.Places.{opened-key}
-use Rattle.block_handler.specs.Call.{World, Call, done, whatOk, callAt, rowOf, withinLimits, call}
+use Rattle.block_handler.specs.Call.{World, Call, Done, done, whatOk, callAt, rowOf, withinLimits, call}
 use Rattle.block_handler.proofs.Frame.{WorldFits, fits-limits, call-fits, call-placed}
-use Rattle.demands.specs.Demand3.{Seen, seen, run, after, callsOn, seenOn, Sent, callOn, joined, Rising, All, AllBytes, entryAt}
-use Rattle.demands.specs.Clocks.{OwnRising}
+use Rattle.demands.specs.Demand3.{Seen, after, Sent, callOn, joined, Rising, All, AllBytes, entryAt}
+use Rattle.demands.specs.Clocks.{asks, requestsOn, runOn, OwnRising}
 use Rattle.demands.specs.Twice.{lastOf}
 use Rattle.demands.specs.Crossing.{inForm, counts, counted, seenCounted, UncountedRefused, among, AllAmong, FromFresh, Transfer, AllProper, callsOf, HandsAll}
 use Rattle.demands.specs.Crossing.{MorningsCross, SixteenCross, UncountedAreRefused}
-use Rattle.demands.proofs.Runs.{all-front, all-behind, seen-cut, none-seen, Cut, cut, rising-cut, rising-own, fresh-fits, after-fits, after-clock}
+use Rattle.demands.proofs.Outcomes.{storing, storing-assembled, early-or-placed}
+use Rattle.demands.proofs.Runs.{asks-own, all-front, all-behind, seen-cut, none-seen, Cut, cut, rising-cut, rising-own, fresh-fits, after-fits, after-clock}
 use Rattle.demands.proofs.Held.{Held}
-use Rattle.demands.proofs.Push.{Pushed, ready-first, pass, push-from, each-block}
+use Rattle.demands.proofs.Push.{Pushed, none-first, ready-first, pass, push-from, each-block}
 use Rattle.demands.proofs.Sixteen.{call-entries, Over, over-call, over-after, has-place}
 
 -- ---- between two pushes: no entry of the key's has anything assembled
@@ -45,11 +50,37 @@ idle-other c w k q f ne idle =
     call-entries (λ e. holds k e ≡ true → e .state .assembled .len ≡ 0) c w q f (λ h. refl)
     (λ s h. absurd (clash-of (same k (q .key)) (sym (holds-new k (q .key) (opened (q .key) (rowOf c w q) .key) (q .time) s (opened-key (q .key) (rowOf c w q) long)) ∙ h) ne)) idle
 
-idle-others : (c : Config) (k : List ℕ) (calls : List Call) (w : World) → WorldFits c w → AllBytes calls → callsOn k calls ≡ [] → Idle k w → Idle k (after call c w calls)
+-- nor after a response on the key
+idle-response : (c : Config) (w : World) (k : List ℕ) (q : Call) (r : Response) → WorldFits c w → k ≡ q .key → q .what ≡ response r → Idle k w → Idle k (call c w q .world)
+unfolding callAt swept
+idle-response c w k q r f mine is idle =
+    early-or-placed (λ (d : Done). Idle k (d .world)) c w q (λ n h. idle)
+    (λ ok later i16.
+    let i : ℕ = place (q .key) (rowOf c w q) in
+    let s : BlockState = opened (q .key) (rowOf c w q) .state in
+    let d : List ℕ = pieceOf (c .response) i (w .response) in
+    let long : length (rowOf c w q) ≡ 16 = row-length c (w .table) (q .time) (f .table) (f .sixteen) in
+    let none : s .assembled .len ≡ 0 = rw mine at (none-first c w k 0 (q .time) f later (λ j b h l. idle j b h) (rw mine i16)) in
+    let step : stepResponse c s d r .state .assembled .len ≡ 0 = ap (λ (a : Assembled). a .len) (storing-assembled c s d r _ (storing c s d r)) ∙ none in
+    rw is
+    (λ j b.
+    at-set (rowOf c w q) i _ (omega (arith, long)) (λ j e. holds k e ≡ true → e .state .assembled .len ≡ 0) (λ h. step)
+    (λ j b ne. rw (at-sweep (c .lifetime) (q .time) (w .table .entries) j)
+    (on-test (λ (e : Entry). holds k e ≡ true → e .state .assembled .len ≡ 0) (live (c .lifetime) (q .time) (entryAt w j)) (λ _. idle j (omega (arith, long))) (λ _ h. refl)))
+    j (omega (arith, long))))
+
+idle-any : (c : Config) (w : World) (k : List ℕ) (q : Call) → WorldFits c w → asks k q ≡ false → Idle k w → Idle k (call c w q .world)
+idle-any c w k q f other idle = by-cases (same k (q .key)) (λ y. own (q .what) refl y) (λ n. idle-other c w k q f n idle)
+  where
+    own : (x : What) → q .what ≡ x → same k (q .key) ≡ true → Idle k (call c w q .world)
+    own (request r) is y = absurd (false≢true (sym (rw (y, is) at other)))
+    own (response r) is y = idle-response c w k q r f (same-eq k (q .key) y) is idle
+
+idle-others : (c : Config) (k : List ℕ) (calls : List Call) (w : World) → WorldFits c w → AllBytes calls → requestsOn k calls ≡ [] → Idle k w → Idle k (after call c w calls)
 idle-others c k [] w f ab none idle = idle
 idle-others c k (q ∷ calls) w f ab none idle =
-    by-cases (same k (q .key)) (λ y. absurd (cons≢nil (rw y at none)))
-    (λ n. idle-others c k calls (call c w q .world) (call-fits c w q (ab .0) f) (ab .1) (rw n at none) (idle-other c w k q f n idle))
+    by-cases (asks k q) (λ y. absurd (cons≢nil (rw y at none)))
+    (λ n. idle-others c k calls (call c w q .world) (call-fits c w q (ab .0) f) (ab .1) (rw n at none) (idle-any c w k q f n idle))
 
 settled-idle : (c : Config) (w : World) (k : List ℕ) (i last : ℕ) → Held c w k i last → entryAt w i .state .assembled ≡ assembly 0 0 → Idle k w
 unfolding Unique
@@ -70,7 +101,7 @@ module _ (c : Config) (k : List ℕ) (keys : List (List ℕ)) (few : length keys
     bytes : AllBytes calls
     all : AllAmong keys calls
     form : All (λ q. inForm q ≡ true) calls
-    owns : callsOn k calls ≡ own
+    owns : requestsOn k calls ≡ own
 
   -- the key's next push, from its first block on
   next-push : (w : World) (calls : List Call) (p : Transfer) (pushes : List Transfer) → Counted w calls (callsOf k (p ∷ pushes)) → AllProper c (p ∷ pushes)
@@ -80,7 +111,7 @@ module _ (c : Config) (k : List ℕ) (keys : List (List ℕ)) (few : length keys
       let b = proper .0 in
       let z : Cut k calls (callOn k s) (map (callOn k) (p .rest) ++ callsOf k pushes) = cut k calls (callOn k s) (map (callOn k) (p .rest) ++ callsOf k pushes) (g .owns) in
       let parts : List Call = callOn k s ∷ z .behind in
-      let r = rising-cut k (w .table .clock) (z .before) (callOn k s) (z .behind) (same-refl k) (subst (OwnRising k (w .table .clock)) (z .is) (g .rising)) in
+      let r = rising-cut k (w .table .clock) (z .before) (callOn k s) (z .behind) (asks-own k s) (subst (OwnRising k (w .table .clock)) (z .is) (g .rising)) in
       let ab : AllBytes (z .before ++ parts) = subst AllBytes (z .is) (g .bytes) in
       let aa : AllAmong keys (z .before ++ parts) = subst (AllAmong keys) (z .is) (g .all) in
       let form = all-behind _ (z .before) parts (subst (All (λ q. inForm q ≡ true)) (z .is) (g .form)) in
@@ -116,14 +147,14 @@ module _ (c : Config) (k : List ℕ) (keys : List (List ℕ)) (few : length keys
       }
 
   one-by-one : (pushes : List Transfer) (w : World) (calls : List Call) → Counted w calls (callsOf k pushes) → AllProper c pushes
-      → HandsAll pushes (seenOn k (run call c w calls))
+      → HandsAll pushes (runOn k call c w calls)
   one-by-one [] w calls g proper = none-seen call c k calls w (g .owns)
   one-by-one (p ∷ pushes) w calls g proper =
       let d = next-push w calls p pushes g proper in
-      let here : List Seen = seenOn k (run call c w (d .front)) in
-      let there : List Seen = seenOn k (run call c (after call c w (d .front)) (d .behind)) in
+      let here : List Seen = runOn k call c w (d .front) in
+      let there : List Seen = runOn k call c (after call c w (d .front)) (d .behind) in
       let n : ℕ = length (p .first ∷ p .rest) in
-      let all : seenOn k (run call c w calls) ≡ here ++ there = ap (λ (l : List Call). seenOn k (run call c w l)) (d .is) ∙ seen-cut call c k (d .front) (d .behind) w in
+      let all : runOn k call c w calls ≡ here ++ there = ap (λ (l : List Call). runOn k call c w l) (d .is) ∙ seen-cut call c k (d .front) (d .behind) w in
       let rest = one-by-one pushes (after call c w (d .front)) (d .behind) (left-over w calls _ _ n _ (callsOf k pushes) g d) (proper .1) in
       rw (all, take-at here there n (d .many), drop-at here there n (d .many)) (d .hands, rest)
 
@@ -181,21 +212,21 @@ module _ (c : Config) (keys : List (List ℕ)) (few : length keys ≤ 16) where
       at-clock (response r) = refl
 
   -- what is seen of the calls that count is what is seen of them alone, and the others are refused
-  traceless : (calls : List Call) (w : World) → WorldFits c w → Over keys w → AllBytes calls → AllAmong keys (counted (w .table .clock) calls)
-      → (seenCounted (w .table .clock) calls (run call c w calls) ≡ run call c w (counted (w .table .clock) calls))
+  traceless : (k : List ℕ) (calls : List Call) (w : World) → WorldFits c w → Over keys w → AllBytes calls → AllAmong keys (counted (w .table .clock) calls)
+      → (seenCounted k call c w (w .table .clock) calls ≡ runOn k call c w (counted (w .table .clock) calls))
       × UncountedRefused call c w (w .table .clock) calls
-  traceless [] w f over ab aa = (refl, tt)
-  traceless (q ∷ calls) w f over ab aa =
+  traceless k [] w f over ab aa = (refl, tt)
+  traceless k (q ∷ calls) w f over ab aa =
       by-cases (counts (w .table .clock) q)
       (λ y.
       let m : AllAmong keys (q ∷ counted (q .time) calls) = rw y at aa in
       let e : call c w q .world .table .clock ≡ q .time = clock-counted w q f over (m .0) y in
-      let t = traceless calls (call c w q .world) (call-fits c w q (ab .0) f) (over-call c w keys f over q (m .0)) (ab .1) (rw e (m .1)) in
+      let t = traceless k calls (call c w q .world) (call-fits c w q (ab .0) f) (over-call c w keys f over q (m .0)) (ab .1) (rw e (m .1)) in
       let t′ = rw e at t in
-      rw y (ap (λ (l : List Seen). seen q (call c w q) ∷ l) (t′ .0), t′ .1))
+      rw y (by-cases (asks k q) (λ m. rw (m, t′ .0)) (λ m. rw (m, t′ .0)), t′ .1))
       (λ n.
       let e : call c w q ≡ done w (Refused (refused q)) = uncounted c w q f n in
-      let t = traceless calls w f over (ab .1) (rw n at aa) in
+      let t = traceless k calls w f over (ab .1) (rw n at aa) in
       rw (n, e) (t .0, (refl, t .1)))
 
 -- ---- from a fresh table
@@ -213,16 +244,16 @@ module _ (c : Config) (w : World) (keys : List (List ℕ)) (calls : List Call) (
   fresh-clock : w .table .clock ≡ 0
   fresh-clock = rw (g .start .table)
 
-  fresh-traceless : (seenCounted 0 calls (run call c w calls) ≡ run call c w (counted 0 calls)) × UncountedRefused call c w 0 calls
-  fresh-traceless =
-      subst (λ (t : ℕ). (seenCounted t calls (run call c w calls) ≡ run call c w (counted t calls)) × UncountedRefused call c w t calls) fresh-clock
-      (traceless c keys (g .sixteen) calls w (fresh-fits c w (g .start)) fresh-over (g .bytes) (rw fresh-clock (g .over)))
+  fresh-traceless : (k : List ℕ) → (seenCounted k call c w 0 calls ≡ runOn k call c w (counted 0 calls)) × UncountedRefused call c w 0 calls
+  fresh-traceless k =
+      subst (λ (t : ℕ). (seenCounted k call c w t calls ≡ runOn k call c w (counted t calls)) × UncountedRefused call c w t calls) fresh-clock
+      (traceless c keys (g .sixteen) k calls w (fresh-fits c w (g .start)) fresh-over (g .bytes) (rw fresh-clock (g .over)))
 
 -- A MORNING OF PUSHES ON EACH KEY
 pub mornings-cross : MorningsCross call
 unfolding MorningsCross
 mornings-cross c w keys calls g k pushes s =
-    rw (fresh-traceless c w keys calls g .0)
+    rw (fresh-traceless c w keys calls g k .0)
     (one-by-one c k keys (g .sixteen) pushes w (counted 0 calls)
     (record {
       fits = fresh-fits c w (g .start);
@@ -240,7 +271,7 @@ mornings-cross c w keys calls g k pushes s =
 pub sixteen-cross : SixteenCross call
 unfolding SixteenCross MorningsCross
 sixteen-cross c w keys calls g k p s =
-    let l : List Seen = seenOn k (seenCounted 0 calls (run call c w calls)) in
+    let l : List Seen = seenCounted k call c w 0 calls in
     let n : ℕ = length (p .first ∷ p .rest) in
     let h = mornings-cross c w keys calls g k (p ∷ []) s in
     let whole : take n l ≡ l = sym (append-nil (take n l)) ∙ ap (λ (r : List Seen). take n l ++ r) (sym (h .1)) ∙ take-append-drop n l in
@@ -248,4 +279,4 @@ sixteen-cross c w keys calls g k p s =
 
 pub uncounted-are-refused : UncountedAreRefused call
 unfolding UncountedAreRefused
-uncounted-are-refused c w keys calls g = fresh-traceless c w keys calls g .1
+uncounted-are-refused c w keys calls g = fresh-traceless c w keys calls g [] .1

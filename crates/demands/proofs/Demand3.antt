@@ -1,17 +1,18 @@
--- DEMAND 3 holds of the definition of a call, in both modes and for every size: first with other lanes' clocks going as they like (specs/Clocks.antt), and so as the
--- mission has it. Assumes nothing.
+-- DEMAND 3 holds of the definition of a call, in both modes and for every size: first with other lanes' clocks going as they like and the key's own responses anywhere
+-- (specs/Clocks.antt), and so as the mission has it. Assumes nothing.
 use Prim.Native.Nat.{ℕ}
-use mathlib.Core.Path.{sym, _∙_, subst}
+use mathlib.Core.Path.{_≡_, sym, _∙_, subst}
 use mathlib.Core.List.{List, [], _∷_, map, append-nil}
 use lib.ListN.{length}
 use Rattle.block_state.specs.declared.Config.{Config}
+use Rattle.keys.specs.Keys.{same}
 use Rattle.keys.proofs.Keys.{same-refl}
 use Rattle.block_handler.specs.Call.{World, Call, call}
 use Rattle.block_handler.proofs.Frame.{world-fits, key-within}
-use Rattle.demands.specs.Demand3.{run, after, seenOn, Sent, callOn, joined, HandsOn, Demand3}
-use Rattle.demands.specs.Clocks.{GrantedOwn, Demand3Own, Stronger}
+use Rattle.demands.specs.Demand3.{after, Sent, callOn, joined, All, HandsOn, Demand3}
+use Rattle.demands.specs.Clocks.{asks, runOn, GrantedOwn, Demand3Own, Stronger}
 use Rattle.demands.specs.Twice.{lastOf}
-use Rattle.demands.proofs.Runs.{seen-cut, none-seen, rising-cut, rising-own}
+use Rattle.demands.proofs.Runs.{asks-own, only-asks, own-requests, own-seen, seen-cut, none-seen, rising-cut, rising-own}
 use Rattle.demands.proofs.Push.{Pushed, place-first, ready-first, push-from, each-block}
 
 -- a push as demand 3 has it, once its last block was taken
@@ -20,24 +21,33 @@ pub pushed : (c : Config) (w : World) (k : List ℕ) (x : ℕ) (first : Sent) (r
 pushed c w k x first rest later g =
     let p = g .push in
     let f = world-fits c w (callOn k first) (p .limits) (p .sixteen) in
-    let r = rising-cut k (w .table .clock) [] (callOn k first) later (same-refl k) (g .clock) in
+    let r = rising-cut k (w .table .clock) [] (callOn k first) later (asks-own k first) (g .clock) in
     push-from c k x (key-within c w (callOn k first) (p .limits)) rest w 0 [] first later []
     (ready-first c w k x (first .time) f (r .0) (place-first c w k x (first .time) f (r .0) (g .entry)) (g .nothing))
-    (each-block c x first rest (p .blocks)) (p .blocks .prompt) (p .blocks .fits) (p .bytes) (r .2) (p .own ∙ sym (append-nil (map (callOn k) rest)))
+    (each-block c x first rest (p .blocks)) (p .blocks .prompt) (p .blocks .fits) (p .bytes) (r .2) (g .own ∙ sym (append-nil (map (callOn k) rest)))
 
 pub demand3-own : Demand3Own call
 unfolding Demand3Own
 demand3-own c w k x first rest later g =
     let p = pushed c w k x first rest later g in
     let none = none-seen call c k (p .behind) (after call c w (p .front)) (p .own) in
-    subst (λ (l : List Call). HandsOn (joined first rest) (seenOn k (run call c w l))) (sym (p .is))
-    (rw (seen-cut call c k (p .front) (p .behind) w, none, append-nil (seenOn k (run call c w (p .front)))) (p .hands))
+    subst (λ (l : List Call). HandsOn (joined first rest) (runOn k call c w l)) (sym (p .is))
+    (rw (seen-cut call c k (p .front) (p .behind) w, none, append-nil (runOn k call c w (p .front))) (p .hands))
 
 pub stronger : Stronger
 unfolding Stronger Demand3Own Demand3
 stronger h d c w k x first rest later g =
-    d c w k x first rest later
-    (record { entry = g .entry; nothing = g .nothing; push = g .push; clock = rising-own k (w .table .clock) (callOn k first ∷ later) (g .clock) })
+    let only = only-asks k later rest (g .own) in
+    let all : All (λ q. asks k q ≡ same k (q .key)) (callOn k first ∷ later) = (rw (same-refl k), only) in
+    let own : GrantedOwn c w k x first rest later =
+    record {
+      entry = g .entry;
+      nothing = g .nothing;
+      push = g .push;
+      own = own-requests k later only ∙ g .own;
+      clock = rising-own k (w .table .clock) (callOn k first ∷ later) (g .clock);
+    } in
+    rw (own-seen h c k (callOn k first ∷ later) w all) at (d c w k x first rest later own)
 
 -- DEMAND 3
 pub demand3 : Demand3 call

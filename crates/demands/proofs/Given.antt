@@ -17,17 +17,17 @@ use Rattle.keys.specs.Keys as keys
 use Rattle.entries.specs.Entries.{free, live}
 use Rattle.answers.specs.Parts.{servedChunk}
 use Rattle.block_handler.specs.Call.{Call, call, withinLimits}
-use Rattle.demands.specs.Demand3.{callsOn, Sent, callOn, block, All, AllBytes, HasFree, NothingInPlain, Blocks, Granted}
-use Rattle.demands.specs.Clocks.{GrantedOwn}
+use Rattle.demands.specs.Demand3.{Sent, callOn, block, All, AllBytes, HasFree, NothingInPlain, Blocks, Granted}
+use Rattle.demands.specs.Clocks.{requestsOn, GrantedOwn}
 use Rattle.demands.specs.Twice.{SentAgain}
 use Rattle.demands.specs.Crossing.{among, AllAmong, counted, callsOf, FromFresh, Sends}
 use Rattle.demands.specs.Strict.{BadlyFormed, PassesFive}
 use Rattle.demands.specs.Pages.{lastStored}
 use Rattle.demands.specs.Shams.{config, fresh, key, sent, firstBlock, lastBlock, later}
 use Rattle.demands.specs.Given.{large, lentWorld, full, sixteenMore, farAgain, keyOfByte, firstOf, nextOf, singleOf, pushesOf, onEach}
-use Rattle.demands.specs.Given.{bytes, backwards, refused, crossing, EachSends, goesBack, bothFaults, page, storing, asked, AllCanBeGiven}
+use Rattle.demands.specs.Given.{bytes, backwards, refused, answering, crossing, EachSends, goesBack, bothFaults, page, storing, asked, AllCanBeGiven}
 use Rattle.demands.proofs.Computes.{values, limits, calls}
-use Rattle.demands.proofs.Runs.{rising-own}
+use Rattle.demands.proofs.Runs.{only-asks, own-requests, rising-own}
 use Rattle.demands.proofs.Shams.{can-be-given}
 
 -- ---- what holds of every call, by one test
@@ -52,18 +52,18 @@ bytes-both (q ∷ a) b h k = (h .0, bytes-both a b (h .1) k)
 -- ---- sixteen keys
 
 abbrev counting : List Call
-counting = onEach firstOf bytes ++ (onEach nextOf backwards ++ onEach singleOf bytes)
+counting = onEach firstOf bytes ++ (onEach nextOf backwards ++ (answering ++ onEach singleOf bytes))
 
 -- all count but the two that are refused
 counted-is : counted 0 crossing ≡ counting
 unfolding limits
 counted-is = refl
 
-sends : (strict : Bool) (b : ℕ) → callsOn (keyOfByte b) counting ≡ callsOf (keyOfByte b) (pushesOf b) → Sends (config strict) (keyOfByte b) crossing (pushesOf b)
+sends : (strict : Bool) (b : ℕ) → requestsOn (keyOfByte b) counting ≡ callsOf (keyOfByte b) (pushesOf b) → Sends (config strict) (keyOfByte b) crossing (pushesOf b)
 unfolding values
 sends strict b own =
     record {
-      own = ap (callsOn (keyOfByte b)) counted-is ∙ own;
+      own = ap (requestsOn (keyOfByte b)) counted-is ∙ own;
       proper = (
         record {
           count = omega arith;
@@ -144,7 +144,8 @@ far-granted u d hu hd =
     record {
       entry = inr (has-free u d);
       nothing = none-live u d;
-      push = record { limits = within u d hu hd; sixteen = refl; bytes = far-bytes; blocks = seventeen; own = refl };
+      push = record { limits = within u d hu hd; sixteen = refl; bytes = far-bytes; blocks = seventeen };
+      own = refl;
       clock = rising-own key 0 (map (callOn key) (full 0x0E ∷ sixteenMore))
           (omega arith, (t, (t, (t, (t, (t, (t, (t, (t, (t, (t, (t, (t, (t, (t, (t, (t, tt)))))))))))))))));
     }
@@ -154,7 +155,14 @@ far-granted u d hu hd =
 -- a push as the mission has it is one as Clocks.antt has it
 own : (strict : Bool) (x : ℕ) (first : Sent) (rest : List Sent) (calls : List Call) → Granted (config strict) fresh key x first rest calls
     → GrantedOwn (config strict) fresh key x first rest calls
-own strict x first rest calls g = record { entry = g .entry; nothing = g .nothing; push = g .push; clock = rising-own key 0 (callOn key first ∷ calls) (g .clock) }
+own strict x first rest calls g =
+    record {
+      entry = g .entry;
+      nothing = g .nothing;
+      push = g .push;
+      own = own-requests key calls (only-asks key calls rest (g .own)) ∙ g .own;
+      clock = rising-own key 0 (callOn key first ∷ calls) (g .clock);
+    }
 
 passes-five : PassesFive (config true) fresh (callOn key bothFaults) (bothFaults .message) (block 1 true 0)
 unfolding calls
@@ -207,17 +215,17 @@ crosses strict =
       start = record { table = refl; config = refl; memories = refl };
       sixteen = omega arith;
       over = subst (AllAmong (map keyOfByte bytes)) (sym counted-is) (every-all (λ q. among (q .key) (map keyOfByte bytes)) counting refl);
-      bytes = bytes-both (onEach firstOf bytes) (refused ++ (onEach nextOf backwards ++ onEach singleOf bytes))
+      bytes = bytes-both (onEach firstOf bytes) (refused ++ (onEach nextOf backwards ++ (answering ++ onEach singleOf bytes)))
           (bytes-each firstOf (λ b. ((omega arith, tt), tt)) bytes)
-          (bytes-both refused (onEach nextOf backwards ++ onEach singleOf bytes) ((tt, tt), (((omega arith, tt), tt), tt))
-          (bytes-both (onEach nextOf backwards) (onEach singleOf bytes) (bytes-each nextOf (λ b. ((omega arith, tt), tt)) backwards)
-          (bytes-each singleOf (λ b. (tt, tt)) bytes)));
+          (bytes-both refused (onEach nextOf backwards ++ (answering ++ onEach singleOf bytes)) ((tt, tt), (((omega arith, tt), tt), tt))
+          (bytes-both (onEach nextOf backwards) (answering ++ onEach singleOf bytes) (bytes-each nextOf (λ b. ((omega arith, tt), tt)) backwards)
+          (tt, bytes-each singleOf (λ b. (tt, tt)) bytes)));
     }
 
 -- each key's own calls that count are its two pushes
 abbrev Owns : List ℕ → Type 0
 Owns [] = Unit {0}
-Owns (b ∷ l) = (callsOn (keyOfByte b) counting ≡ callsOf (keyOfByte b) (pushesOf b)) × Owns l
+Owns (b ∷ l) = (requestsOn (keyOfByte b) counting ≡ callsOf (keyOfByte b) (pushesOf b)) × Owns l
 
 owns : Owns bytes
 unfolding keys.same
@@ -242,8 +250,8 @@ goes-back strict =
         sixteen = refl;
         bytes = (((omega arith, tt), tt), (((omega arith, tt), tt), (((omega arith, tt), tt), (((omega arith, tt), tt), tt))));
         blocks = g .push .blocks;
-        own = refl;
       };
+      own = refl;
       clock = (λ y. omega arith, (λ y. omega arith, (λ y. absurd (false≢true y), (λ y. omega arith, tt))));
     }
 

@@ -40,9 +40,9 @@ use Rattle.demands.proofs.Computes.{calls}
 
 pub starts-afresh : StartsAfresh call
 unfolding StartsAfresh Demand3
-starts-afresh c w k x first rest later strict o p rise =
+starts-afresh c w k x first rest later strict o p own rise =
     demand3 c w k x first rest later
-    (record { entry = inl o; nothing = λ plain. absurd (clash-of (c .strict) strict plain); push = p; clock = rise })
+    (record { entry = inl o; nothing = λ plain. absurd (clash-of (c .strict) strict plain); push = p; own = own; clock = rise })
 
 -- ---- plain mode
 
@@ -141,7 +141,7 @@ story =
           fits = omega arith;
           prompt = (omega arith, tt);
         };
-        own = refl;
       };
+      own = refl;
       clock = (omega arith, (omega arith, tt));
     }

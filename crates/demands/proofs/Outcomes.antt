@@ -1,20 +1,20 @@
--- What a request's step can come to, gone through once: what is promised of a request's answer is read off these cases. Assumes nothing.
+-- What a step can come to, gone through once: what is promised of a call's answer is read off these cases. Assumes nothing.
 use Prim.Native.Nat.{ℕ, _+_, _*_, _≤_, _<_}
 use mathlib.Core.Bool.{true, false, not, _&&_}
 use mathlib.Core.Path.{_≡_, refl, sym, _∙_, ap}
-use mathlib.Core.List.{List}
+use mathlib.Core.List.{List, _++_}
 use native.Mathlib.Omega.{arith}
 use lib.ListN.{length}
 use lib.Dec.{leb, ltb}
 use borrow.Author.Tests.{not-false, ltb-false, leb-false}
-use Rattle.pieces.specs.Memory.{pieceOf}
+use Rattle.pieces.specs.Memory.{patch, pieceOf}
 use Rattle.pieces.proofs.Tests.{on-test}
 use Rattle.splicing.specs.Splice.{spliceOf}
 use Rattle.splicing.specs.declared.Splice.{Splice}
 use Rattle.splicing.specs.declared.Splice.the-variants as splice
 use Rattle.block_value.specs.Value.{blockSize, blockStart}
 use Rattle.block_value.specs.declared.BlockValue.{BlockValue}
-use Rattle.negotiation.specs.Negotiation.{requestBlock}
+use Rattle.negotiation.specs.Negotiation.{requestBlock, negotiated}
 use Rattle.negotiation.specs.Chunk.{chunkOf}
 use Rattle.negotiation.specs.declared.MaybeBlock.{MaybeBlock}
 use Rattle.negotiation.specs.declared.MaybeBlock.the-variants.{Absent, Given}
@@ -28,14 +28,16 @@ use Rattle.block_state.specs.declared.BlockState.{BlockState}
 use Rattle.block_state.specs.declared.Part.{Part}
 use Rattle.block_state.specs.declared.Answer.{Answer}
 use Rattle.block_state.specs.declared.Answer.the-variants.{Continue, TooLarge, Handed, Pass, Served, Refused}
-use Rattle.block_state.specs.Message.{Request, request}
-use Rattle.block_state.specs.State.{keptWhile, withRecorded}
+use Rattle.block_state.specs.Message.{Request, Response, request}
+use Rattle.block_state.specs.State.{keptWhile, caching, recordedBlock, withRecorded}
 use Rattle.block_state.specs.Step.{Left, left, bytesFrom}
 use Rattle.request_block2.specs.Block2 as block2
 use Rattle.request_block1.specs.Block1.{taken, onSplice, block1Given, badForm, notNext, lengthMet}
 use Rattle.request_step.specs.Step.{onNegotiated, stepRequest}
+use Rattle.response_step.specs.Step.{chunked, onReply, stepResponse}
 use Rattle.places.specs.Places.{place, opened}
 use Rattle.block_handler.specs.Call.{World, Call, Done, done, callAt, rowOf, withinLimits, call}
+use Rattle.demands.specs.Pages.{isFirst}
 use Rattle.demands.specs.Agreed.{requestAgrees}
 
 module _ (c : Config) (away : ℕ) (s : BlockState) (u : List ℕ) (r : Request) where
@@ -111,6 +113,37 @@ module _ (c : Config) (away : ℕ) (s : BlockState) (u : List ℕ) (r : Request)
   pub outcome : (home : ℕ) → Outcome (stepRequest c home away s u r)
   unfolding stepRequest
   outcome home = of-negotiated home (requestBlock (r .block1)) refl (requestAgrees c r) refl
+
+-- ---- a response's step: nothing is stored, or First is answered
+
+pub data Storing (c : Config) (s : BlockState) (d head payload : List ℕ) : Left → Type 0 where
+  as-before : (a : Answer) → isFirst a ≡ false → Storing c s d head payload (left s d a)
+  stores : (t : BlockState) (a : Answer) → isFirst a ≡ true → t .assembled ≡ s .assembled → t .cached ≡ caching (length head) (length payload)
+      → length head + length payload ≤ c .response
+      → Storing c s d head payload (left t (patch d 0 (head ++ payload)) a)
+
+storing-chunk : (c : Config) (s : BlockState) (d head payload : List ℕ) (ch : Chunk) → Storing c s d head payload (chunked c s d head payload ch)
+unfolding chunked
+storing-chunk c s d head payload (chunk.Refused n) = as-before _ refl
+storing-chunk c s d head payload (chunk.Bytes b from to) =
+    on-test (Storing c s d head payload) (b .more)
+    (λ _. on-test (Storing c s d head payload) (ltb (c .response) (length head + length payload)) (λ _. as-before _ refl)
+    (λ n. stores _ _ refl refl refl (ltb-false (c .response) (length head + length payload) n)))
+    (λ _. as-before _ refl)
+
+pub storing : (c : Config) (s : BlockState) (d : List ℕ) (r : Response) → Storing c s d (r .head) (r .payload) (stepResponse c s d r)
+unfolding stepResponse onReply
+storing c s d r = on-test (Storing c s d (r .head) (r .payload)) (r .own) (λ _. as-before _ refl) (λ _. replied (negotiated (recordedBlock (s .recorded)) (r .bare) (length (r .payload)) (c .limit)))
+  where
+    replied : (n : Negotiated) → Storing c s d (r .head) (r .payload) (onReply c s d (r .head) (r .payload) n)
+    replied (agreed.Refused n) = as-before _ refl
+    replied agreed.NoBlock = as-before _ refl
+    replied (agreed.Block b) = storing-chunk c s d (r .head) (r .payload) (chunkOf b (length (r .payload)))
+
+-- either way what is assembled stays
+pub storing-assembled : (c : Config) (s : BlockState) (d : List ℕ) (r : Response) (g : Left) → Storing c s d (r .head) (r .payload) g → g .state .assembled ≡ s .assembled
+storing-assembled c s d r g (as-before a no-first) = refl
+storing-assembled c s d r g (stores t a first same cached room) = same
 
 -- a call is refused by the first three checks, with nothing changed, or has its place
 pub early-or-placed : (P : Done → Type 0) (c : Config) (w : World) (q : Call) → ((n : ℕ) → n ≤ 3 → P (done w (Refused n)))

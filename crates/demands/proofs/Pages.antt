@@ -8,19 +8,16 @@ use mathlib.Core.Option.{Option, none, some}
 use native.Mathlib.Omega.{arith}
 use lib.ListN.{length, set, take, drop, length-append, getD-replicate}
 use lib.Seq.{take-take, take-at, drop-at}
-use lib.Dec.{ltb, leb}
-use borrow.Author.Tests.{ltb-false}
+use lib.Dec.{leb}
 use Rattle.pieces.specs.Memory.{patch, part as bytesIn, pieceOf, putPiece}
 use Rattle.pieces.proofs.Memory.{piece-order, length-piece, length-patch, piece-put-same, piece-put-other, patch-self, take-part, drop-part}
 use Rattle.pieces.proofs.Tests.{by-cases, on-test, clash-of}
 use Rattle.block_value.specs.Value.{blockStart}
 use Rattle.block_value.specs.declared.BlockValue.{BlockValue}
-use Rattle.negotiation.specs.Negotiation.{requestBlock, negotiated}
+use Rattle.negotiation.specs.Negotiation.{requestBlock}
 use Rattle.negotiation.specs.Chunk.{chunkOf, chunkBlock}
 use Rattle.negotiation.specs.declared.MaybeBlock.{MaybeBlock}
 use Rattle.negotiation.specs.declared.MaybeBlock.the-variants.{Given}
-use Rattle.negotiation.specs.declared.Negotiated.{Negotiated}
-use Rattle.negotiation.specs.declared.Negotiated.the-variants as agreed
 use Rattle.negotiation.specs.declared.Chunk.{Chunk}
 use Rattle.negotiation.specs.declared.Chunk.the-variants as chunk
 use Rattle.block_state.specs.declared.Config.{Config}
@@ -30,9 +27,8 @@ use Rattle.block_state.specs.declared.Part.{Part}
 use Rattle.block_state.specs.declared.Answer.{Answer}
 use Rattle.block_state.specs.declared.Answer.the-variants.{Continue, TooLarge, Handed, Pass, Served, Plain, Whole, First, Refused}
 use Rattle.block_state.specs.Message.{Request, Response, What, request, response}
-use Rattle.block_state.specs.State.{keptWhile, caching, recordedBlock}
+use Rattle.block_state.specs.State.{keptWhile}
 use Rattle.block_state.specs.Step.{Left, left, bytesFrom}
-use Rattle.response_step.specs.Step.{chunked, onReply, stepResponse}
 use Rattle.keys.specs.Keys.{same}
 use Rattle.keys.proofs.Keys.{same-refl, same-eq}
 use Rattle.entries.specs.declared.Entry.{Entry}
@@ -49,10 +45,10 @@ use Rattle.block_handler.specs.Call.{World, Call, Done, callAt, rowOf, call}
 use Rattle.block_handler.proofs.Frame.{WorldFits, call-cases, call-fits}
 use Rattle.demands.specs.Demand3.{after, AllBytes, entryAt}
 use Rattle.demands.proofs.OwnStep.{held-after}
-use Rattle.demands.proofs.Outcomes.{Outcome, refused, past, tooLarge, continued, onwards, serves, none as no-block1, took, outcome}
+use Rattle.demands.proofs.Outcomes.{Storing, as-before, stores, storing, Outcome, refused, past, tooLarge, continued, onwards, serves, none as no-block1, took, outcome}
 use Rattle.demands.proofs.Runs.{fresh-fits, after-fits}
 use Rattle.demands.proofs.Push.{shown-part}
-use Rattle.demands.specs.Pages.{Page, isFirst, storedBy, noted, lastStored, ShowsPage, ServesThePage}
+use Rattle.demands.specs.Pages.{Page, storedBy, noted, lastStored, ShowsPage, ServesThePage}
 
 -- ---- a request's step: the cache stays or goes
 
@@ -100,31 +96,6 @@ from-request c away s u r g (onwards t v _ _ no-block1 e) = tt
 from-request c away s u r g (onwards t v _ _ (took b reply body k) e) = tt
 from-request c away s u r g (serves t v block1 a x y from to k held asks is e) =
     record { held = held; asked = x; asks = asks; from = from; to = to; bytes = is; its-head = refl; its-part = refl }
-
--- ---- a response's step: nothing is stored, or First is answered
-
-pub data Storing (c : Config) (s : BlockState) (d head payload : List ℕ) : Left → Type 0 where
-  as-before : (a : Answer) → isFirst a ≡ false → Storing c s d head payload (left s d a)
-  stores : (t : BlockState) (a : Answer) → isFirst a ≡ true → t .cached ≡ caching (length head) (length payload) → length head + length payload ≤ c .response
-      → Storing c s d head payload (left t (patch d 0 (head ++ payload)) a)
-
-storing-chunk : (c : Config) (s : BlockState) (d head payload : List ℕ) (ch : Chunk) → Storing c s d head payload (chunked c s d head payload ch)
-unfolding chunked
-storing-chunk c s d head payload (chunk.Refused n) = as-before _ refl
-storing-chunk c s d head payload (chunk.Bytes b from to) =
-    on-test (Storing c s d head payload) (b .more)
-    (λ _. on-test (Storing c s d head payload) (ltb (c .response) (length head + length payload)) (λ _. as-before _ refl)
-    (λ n. stores _ _ refl refl (ltb-false (c .response) (length head + length payload) n)))
-    (λ _. as-before _ refl)
-
-pub storing : (c : Config) (s : BlockState) (d : List ℕ) (r : Response) → Storing c s d (r .head) (r .payload) (stepResponse c s d r)
-unfolding stepResponse onReply
-storing c s d r = on-test (Storing c s d (r .head) (r .payload)) (r .own) (λ _. as-before _ refl) (λ _. replied (negotiated (recordedBlock (s .recorded)) (r .bare) (length (r .payload)) (c .limit)))
-  where
-    replied : (n : Negotiated) → Storing c s d (r .head) (r .payload) (onReply c s d (r .head) (r .payload) n)
-    replied (agreed.Refused n) = as-before _ refl
-    replied agreed.NoBlock = as-before _ refl
-    replied (agreed.Block b) = storing-chunk c s d (r .head) (r .payload) (chunkOf b (length (r .payload)))
 
 -- ---- what the table caches for the key is the page
 
@@ -216,7 +187,7 @@ module _ (c : Config) (w : World) (q : Call) (k : List ℕ) (p : Option Page) (f
       where
         put-self : putPiece (c .response) here (pieceOf (c .response) here (w .response)) (w .response) ≡ w .response
         put-self = piece-self (c .response) here (w .response) in-memory
-    stored-entry r g (stores t a yes-first ec room) i i16 =
+    stored-entry r g (stores t a yes-first unmoved ec room) i i16 =
         let page : Page = record { head = r .head; payload = r .payload } in
         let body : List ℕ = r .head ++ r .payload in
         let n : length body ≡ length (r .head) + length (r .payload) = length-append (r .head) (r .payload) in

@@ -27,7 +27,7 @@ use Rattle.keys.specs.Keys.{keyOk}
 use Rattle.keys.proofs.Lists.{find-at-most}
 use Rattle.keys.proofs.Keys.{same-refl}
 use Rattle.entries.specs.declared.Entry.{Entry}
-use Rattle.entries.specs.Entries.{free, holds, unused}
+use Rattle.entries.specs.Entries.{free, holds, live, unused}
 use Rattle.entries.proofs.Entries.{holds-new, swept-dead, swept-holds}
 use Rattle.block_table.specs.Table.{at}
 use Rattle.block_table.proofs.Row.{at-sweep}
@@ -38,13 +38,13 @@ use Rattle.judge.specs.Limits.{configOk}
 use Rattle.answers.specs.Parts.{partOf}
 use Rattle.block_handler.specs.Call.{World, Call, whatOk, call}
 use Rattle.block_handler.proofs.Frame.{WorldFits, Took, request-took, call-fits}
-use Rattle.demands.specs.Demand3.{Seen, seen, run, after, callsOn, seenOn, Sent, callOn, block, Each, Fills, joined, Prompt, AllBytes, entryAt}
+use Rattle.demands.specs.Demand3.{Seen, seen, after, Sent, callOn, block, Each, Fills, joined, Prompt, AllBytes, entryAt}
 use Rattle.demands.specs.Demand3.{HasLive, HasFree, NothingInPlain, Blocks, HandsOn}
-use Rattle.demands.specs.Clocks.{OwnRising}
+use Rattle.demands.specs.Clocks.{requestsOn, runOn, OwnRising}
 use Rattle.demands.specs.Touch.{HandsTo}
 use Rattle.demands.specs.Twice.{lastOf}
 use Rattle.demands.proofs.OwnStep.{Meets, OneBlock, fills-most, held-after, own-more, own-last, meets-first, meets-next}
-use Rattle.demands.proofs.Runs.{all-front, all-behind, after-cut, seen-cut, none-seen, Cut, cut, rising-cut, after-clock}
+use Rattle.demands.proofs.Runs.{asks-own, all-front, all-behind, after-cut, seen-cut, none-seen, Cut, cut, rising-cut, after-clock}
 use Rattle.demands.proofs.Held.{Held, held-place, held-opened, held-others}
 
 -- ---- an entry's place and its piece
@@ -107,18 +107,20 @@ module _ (c : Config) (w : World) (k : List ℕ) (x time : ℕ) (f : WorldFits c
       at-sweep (c .lifetime) time (w .table .entries) (o .0) ∙ swept-dead (c .lifetime) time (entryAt w (o .0)) (o .2) in
       place-free k found (o .0) found-16 (o .1) (rw e)
 
-  none-first : NothingInPlain c w time k → place k found < 16 → c .strict ≡ false → opened k found .state .assembled .len ≡ 0
-  none-first nothing p plain =
+  -- where no live entry of the key's has anything assembled, its call starts from nothing
+  pub none-first : ((i : ℕ) → i < 16 → holds k (entryAt w i) ≡ true → live (c .lifetime) time (entryAt w i) ≡ true → entryAt w i .state .assembled .len ≡ 0)
+      → place k found < 16 → opened k found .state .assembled .len ≡ 0
+  none-first nothing p =
       let i : ℕ = place k found in
       by-cases (at found i .used)
       (λ u.
       let h : holds k (at found i) ≡ true = place-holds k found found-16 u in
       let s = swept-holds (c .lifetime) time k (entryAt w i) (rw (at-sweep (c .lifetime) time (w .table .entries) i) at h) in
-      rw (opened-own k found u, row-live c (w .table) time (f .table) (f .sixteen) i (s .0)) (nothing plain i p (s .1) (s .0)))
+      rw (opened-own k found u, row-live c (w .table) time (f .table) (f .sixteen) i (s .0)) (nothing i p (s .1) (s .0)))
       (λ n. rw (opened-new k found n))
 
   pub ready-first : place k found < 16 → NothingInPlain c w time k → Ready c w k x 0 time []
-  ready-first p nothing = record { fits = f; later = later; placed = p; meets = meets-first c _ _ x (none-first nothing p) }
+  ready-first p nothing = record { fits = f; later = later; placed = p; meets = meets-first c _ _ x (λ plain. none-first (nothing plain) p) }
 
 -- ---- a block of the client's
 
@@ -153,7 +155,7 @@ module _ (c : Config) (w : World) (k : List ℕ) (x j : ℕ) (m : Bool) (s : Sen
         fits = call-fits c w (callOn k s) hb (g .fits);
         slot = g .placed;
         held = rw (took .entry) (holds-new k k (opened k entries .key) (s .time) _ (opened-key k entries (row-length c (w .table) (s .time) (g .fits .table) (g .fits .sixteen))) ∙ same-refl k);
-        touched = rw (took .entry);
+        touched = rw (took .entry) (omega arith);
       }
 
   block-more : m ≡ true
@@ -179,23 +181,23 @@ pub record Pushed (c : Config) (w : World) (k : List ℕ) (last n : ℕ) (bytes 
   pub front : List Call
   pub behind : List Call
   pub is : calls ≡ front ++ behind
-  pub hands : HandsOn bytes (seenOn k (run call c w front))
-  pub many : length (seenOn k (run call c w front)) ≡ n
+  pub hands : HandsOn bytes (runOn k call c w front)
+  pub many : length (runOn k call c w front) ≡ n
   pub slot : ℕ
   pub settled : Held c (after call c w front) k slot last
   pub empty : entryAt (after call c w front) slot .state .assembled ≡ assembly 0 0
   pub clock : after call c w front .table .clock ≡ last
   pub rising : OwnRising k last behind
-  pub own : callsOn k behind ≡ tail
+  pub own : requestsOn k behind ≡ tail
 
 module _ (c : Config) (w : World) (k : List ℕ) (last n : ℕ) (bytes : List ℕ) (tail calls : List Call) where
   -- other keys' calls before it
-  pub pass : (before : List Call) → callsOn k before ≡ [] → Pushed c (after call c w before) k last n bytes tail calls
+  pub pass : (before : List Call) → requestsOn k before ≡ [] → Pushed c (after call c w before) k last n bytes tail calls
       → Pushed c w k last n bytes tail (before ++ calls)
   pass before none p =
       let there : after call c w (before ++ p .front) ≡ after call c (after call c w before) (p .front) = after-cut call c before (p .front) w in
-      let same : seenOn k (run call c w (before ++ p .front)) ≡ seenOn k (run call c (after call c w before) (p .front)) =
-      seen-cut call c k before (p .front) w ∙ ap (λ (l : List Seen). l ++ seenOn k (run call c (after call c w before) (p .front))) (none-seen call c k before w none) in
+      let same : runOn k call c w (before ++ p .front) ≡ runOn k call c (after call c w before) (p .front) =
+      seen-cut call c k before (p .front) w ∙ ap (λ (l : List Seen). l ++ runOn k call c (after call c w before) (p .front)) (none-seen call c k before w none) in
       record {
         front = before ++ p .front;
         behind = p .behind;
@@ -218,8 +220,8 @@ module _ (c : Config) (w : World) (k : List ℕ) (last n : ℕ) (bytes : List �
         front = callOn k s ∷ p .front;
         behind = p .behind;
         is = ap (λ (l : List Call). callOn k s ∷ l) (p .is);
-        hands = rw (same-refl k) (first (seenOn k (run call c (call c w (callOn k s) .world) (p .front))) (p .hands));
-        many = rw (same-refl k) (ap suc (p .many));
+        hands = rw (asks-own k s) (first (runOn k call c (call c w (callOn k s) .world) (p .front)) (p .hands));
+        many = rw (asks-own k s) (ap suc (p .many));
         slot = p .slot;
         settled = p .settled;
         empty = p .empty;
@@ -238,7 +240,7 @@ module _ (c : Config) (k : List ℕ) (x : ℕ) (named : keyOk k ≡ true) where
   From rest =
       (w : World) (j : ℕ) (bytes : List ℕ) (s : Sent) (calls tail : List Call) → Ready c w k x j (s .time) bytes
       → Each (OneBlock c x) j s rest → Prompt (c .lifetime) (s .time) rest → length (bytes ++ joined s rest) ≤ c .upload
-      → AllBytes (callOn k s ∷ calls) → OwnRising k (s .time) calls → callsOn k calls ≡ map (callOn k) rest ++ tail
+      → AllBytes (callOn k s ∷ calls) → OwnRising k (s .time) calls → requestsOn k calls ≡ map (callOn k) rest ++ tail
       → Pushed c w k (lastOf s rest .time) (suc (length rest)) (bytes ++ joined s rest) tail (callOn k s ∷ calls)
 
   from-last : From []
@@ -248,8 +250,8 @@ module _ (c : Config) (k : List ℕ) (x : ℕ) (named : keyOk k ≡ true) where
         front = callOn k s ∷ [];
         behind = calls;
         is = refl;
-        hands = rw (same-refl k) (l .0);
-        many = rw (same-refl k);
+        hands = rw (asks-own k s) (l .0);
+        many = rw (asks-own k s);
         slot = here c w k x j false s bytes g named (ab .0) b f;
         settled = block-held c w k x j false s bytes g named (ab .0) b f;
         empty = l .1;
@@ -269,14 +271,14 @@ module _ (c : Config) (k : List ℕ) (x : ℕ) (named : keyOk k ≡ true) where
       let v : World = call c w (callOn k s) .world in
       let m = block-more c w k x j true s bytes g named (ab .0) (b .0) fit refl in
       let z : Cut k calls (callOn k t) (map (callOn k) rest ++ tail) = cut k calls (callOn k t) (map (callOn k) rest ++ tail) own in
-      let r = rising-cut k (s .time) (z .before) (callOn k t) (z .behind) (same-refl k) (subst (OwnRising k (s .time)) (z .is) rise) in
+      let r = rising-cut k (s .time) (z .before) (callOn k t) (z .behind) (asks-own k t) (subst (OwnRising k (s .time)) (z .is) rise) in
       let ab′ : AllBytes (z .before ++ (callOn k t ∷ z .behind)) = subst AllBytes (z .is) (ab .1) in
       let v′ : World = after call c v (z .before) in
       let u = held-others c k i (s .time) (t .time) (pr .0) (z .before) v (block-held c w k x j true s bytes g named (ab .0) (b .0) fit)
       (all-front _ (z .before) (callOn k t ∷ z .behind) ab′) (r .1) (z .none) in
       let clock : v .table .clock ≡ s .time = block-clock c w k x j true s bytes g named (ab .0) (b .0) fit in
       let ready : Ready c v′ k x (suc j) (t .time) (bytes ++ p) =
-      ready-next c v′ k x i (suc j) (s .time) (t .time) (bytes ++ p) (u .1) (rw (u .0 .entry, u .0 .upload) (m .1))
+      ready-next c v′ k x i (suc j) (s .time) (t .time) (bytes ++ p) (u .1) (rw (u .0 .assembled, u .0 .upload) (m .1))
       (after-clock c (t .time) (z .before) v (omega (arith, r .0, clock)) (r .1)) (pr .0) in
       let n = on v′ (suc j) (bytes ++ p) t (z .behind) tail ready (b .1) (pr .1) f′ (all-behind _ (z .before) (callOn k t ∷ z .behind) ab′) (r .2) (z .left) in
       let n′ = pass c v k (lastOf t rest .time) (suc (length rest)) (bytes ++ p ++ joined t rest) tail (callOn k t ∷ z .behind) (z .before) (z .none) n in

@@ -38,10 +38,9 @@ use Rattle.demands.specs.Demand3.{entryAt}
 use Rattle.demands.specs.Touch.{Placed, touched}
 use Rattle.demands.specs.Refusals.{RefusalsLeave}
 use Rattle.demands.proofs.Pairing.{refusal-number}
-use Rattle.demands.proofs.Outcomes.{Why, unagreed, badly, astray, unspliced, Outcome, refused, past, tooLarge, continued, onwards, serves, none, took, outcome, early-or-placed}
+use Rattle.demands.proofs.Outcomes.{Storing, as-before, stores, storing, Why, unagreed, badly, astray, unspliced, Outcome, refused, past, tooLarge, continued, onwards, serves, none, took, outcome, early-or-placed}
 use Rattle.demands.proofs.Touch.{made, refused-touches, response-touches}
 use Rattle.demands.specs.Pages.{isFirst}
-use Rattle.demands.proofs.Pages.{Storing, as-before, stores, storing}
 
 pub never : {A : Type 0} → _≡_ {A = ℕ} 0 1 → A
 never z = absurd (omega arith)
@@ -131,7 +130,7 @@ request-cache c away s u r n = of-refusal c away s u r n (λ g. g .state .cached
 
 response-same : (c : Config) (s : BlockState) (d : List ℕ) (r : Response) (n : ℕ) (g : Left) → Storing c s d (r .head) (r .payload) g → g .answer ≡ Refused n → g ≡ left s d (Refused n)
 response-same c s d r n g (as-before a no-first) e = ap (λ (y : Answer). left s d y) e
-response-same c s d r n g (stores t a first is room) e = absurd (false≢true (ap isFirst (sym e) ∙ first))
+response-same c s d r n g (stores t a first same is room) e = absurd (false≢true (ap isFirst (sym e) ∙ first))
 
 module _ (c : Config) (w : World) (q : Call) where
   abbrev i : ℕ

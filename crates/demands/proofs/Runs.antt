@@ -2,7 +2,7 @@
 use Prim.Native.Nat.{ℕ, _*_, _≤_, max}
 use mathlib.Core.Bool.{true}
 use mathlib.Core.Path.{_≡_, refl, ap}
-use mathlib.Core.List.{List, [], _∷_, _++_, nil≢cons, cons≢nil, head-eq-of-cons-eq, tail-eq-of-cons-eq}
+use mathlib.Core.List.{List, [], _∷_, _++_, map, nil≢cons, cons≢nil, head-eq-of-cons-eq, tail-eq-of-cons-eq}
 use native.Mathlib.Omega.{arith}
 use lib.ListN.{length}
 use borrow.Author.Tests.{eqb-true}
@@ -10,13 +10,14 @@ use Rattle.pieces.proofs.Tests.{ands, by-cases}
 use Rattle.block_state.specs.declared.Config.{Config}
 use Rattle.block_state.specs.Message.{What, request, response}
 use Rattle.keys.specs.Keys.{same}
+use Rattle.keys.proofs.Keys.{same-refl}
 use Rattle.block_table.proofs.TableFits as fits
 use Rattle.places.specs.Places.{place, opened}
 use Rattle.judge.specs.Limits.{memoriesOk}
 use Rattle.block_handler.specs.Call.{World, Call, callAt, rowOf, call}
 use Rattle.block_handler.proofs.Frame.{WorldFits, call-fits, call-cases}
-use Rattle.demands.specs.Demand3.{Handler, run, after, callsOn, seenOn, All, AllBytes, Rising, Fresh}
-use Rattle.demands.specs.Clocks.{OwnRising}
+use Rattle.demands.specs.Demand3.{Handler, run, after, callsOn, seenOn, Sent, callOn, All, AllBytes, Rising, Fresh}
+use Rattle.demands.specs.Clocks.{asks, requestsOn, runOn, OwnRising}
 
 -- ---- calls cut in two
 
@@ -32,40 +33,39 @@ pub after-cut : (h : Handler) (c : Config) (a b : List Call) (w : World) → aft
 after-cut h c [] b w = refl
 after-cut h c (q ∷ a) b w = after-cut h c a b (h c w q .world)
 
-pub seen-cut : (h : Handler) (c : Config) (k : List ℕ) (a b : List Call) (w : World)
-    → seenOn k (run h c w (a ++ b)) ≡ seenOn k (run h c w a) ++ seenOn k (run h c (after h c w a) b)
+pub seen-cut : (h : Handler) (c : Config) (k : List ℕ) (a b : List Call) (w : World) → runOn k h c w (a ++ b) ≡ runOn k h c w a ++ runOn k h c (after h c w a) b
 seen-cut h c k [] b w = refl
 seen-cut h c k (q ∷ a) b w =
     let rest = seen-cut h c k a b (h c w q .world) in
-    by-cases (same k (q .key)) (λ y. rw (y, rest)) (λ n. rw (n, rest))
+    by-cases (asks k q) (λ y. rw (y, rest)) (λ n. rw (n, rest))
 
-pub none-seen : (h : Handler) (c : Config) (k : List ℕ) (calls : List Call) (w : World) → callsOn k calls ≡ [] → seenOn k (run h c w calls) ≡ []
+pub none-seen : (h : Handler) (c : Config) (k : List ℕ) (calls : List Call) (w : World) → requestsOn k calls ≡ [] → runOn k h c w calls ≡ []
 none-seen h c k [] w e = refl
 none-seen h c k (q ∷ calls) w e =
-    by-cases (same k (q .key)) (λ y. absurd (cons≢nil (rw y at e))) (λ n. rw n (none-seen h c k calls (h c w q .world) (rw n at e)))
+    by-cases (asks k q) (λ y. absurd (cons≢nil (rw y at e))) (λ n. rw n (none-seen h c k calls (h c w q .world) (rw n at e)))
 
--- ---- the key's next call, with the calls before it and behind it
+-- ---- the key's next request, with the calls before it and behind it
 
 pub record Cut (k : List ℕ) (calls : List Call) (q : Call) (l : List Call) : Type 0 where
   pub before : List Call
   pub behind : List Call
   pub is : calls ≡ before ++ (q ∷ behind)
-  pub none : callsOn k before ≡ []
-  pub left : callsOn k behind ≡ l
+  pub none : requestsOn k before ≡ []
+  pub left : requestsOn k behind ≡ l
 
-pub cut : (k : List ℕ) (calls : List Call) (q : Call) (l : List Call) → callsOn k calls ≡ q ∷ l → Cut k calls q l
+pub cut : (k : List ℕ) (calls : List Call) (q : Call) (l : List Call) → requestsOn k calls ≡ q ∷ l → Cut k calls q l
 cut k [] q l e = absurd (nil≢cons e)
 cut k (p ∷ calls) q l e =
-    by-cases (same k (p .key))
+    by-cases (asks k p)
     (λ y.
-    let h : p ∷ callsOn k calls ≡ q ∷ l = rw y at e in
+    let h : p ∷ requestsOn k calls ≡ q ∷ l = rw y at e in
     record { before = []; behind = calls; is = ap (λ (r : Call). r ∷ calls) (head-eq-of-cons-eq h); none = refl; left = tail-eq-of-cons-eq h })
     (λ n.
     let g = cut k calls q l (rw n at e) in
     record { before = p ∷ g .before; behind = g .behind; is = ap (λ (r : List Call). p ∷ r) (g .is); none = rw n (g .none); left = g .left })
 
--- the key's next call is not before t, nor before any of those ahead of it
-pub rising-cut : (k : List ℕ) (t : ℕ) (a : List Call) (q : Call) (b : List Call) → same k (q .key) ≡ true → OwnRising k t (a ++ (q ∷ b))
+-- the key's next request is not before t, nor before any of those ahead of it
+pub rising-cut : (k : List ℕ) (t : ℕ) (a : List Call) (q : Call) (b : List Call) → asks k q ≡ true → OwnRising k t (a ++ (q ∷ b))
     → (t ≤ q .time) × All (λ p. p .time ≤ q .time) a × OwnRising k (q .time) b
 rising-cut k t [] q b y h =
     let up : t ≤ q .time = h .0 y in
@@ -75,12 +75,40 @@ rising-cut k t (p ∷ a) q b y h =
     let r = rising-cut k (max t (p .time)) a q b y (h .1) in
     (omega (arith, r .0), (omega (arith, r .0), r .1), r .2)
 
--- a clock that never goes back does not go back at the key's calls
+-- a clock that never goes back does not go back at the key's requests
 pub rising-own : (k : List ℕ) (t : ℕ) (calls : List Call) → Rising t calls → OwnRising k t calls
 rising-own k t [] h = tt
 rising-own k t (q ∷ calls) h =
     let latest : max t (q .time) ≡ q .time = omega (arith, h .0) in
     (λ y. h .0, rw latest (rising-own k (q .time) calls (h .1)))
+
+-- a block is a request on its key
+pub asks-own : (k : List ℕ) (s : Sent) → asks k (callOn k s) ≡ true
+asks-own k s = rw (same-refl k)
+
+-- where all calls on the key are blocks, its calls are its requests
+pub only-asks : (k : List ℕ) (calls : List Call) (l : List Sent) → callsOn k calls ≡ map (callOn k) l → All (λ q. asks k q ≡ same k (q .key)) calls
+only-asks k [] l e = tt
+only-asks k (q ∷ calls) [] e =
+    by-cases (same k (q .key)) (λ y. absurd (cons≢nil (rw y at e))) (λ n. (rw n, only-asks k calls [] (rw n at e)))
+only-asks k (q ∷ calls) (s ∷ l) e =
+    by-cases (same k (q .key))
+    (λ y.
+    let h : q ∷ callsOn k calls ≡ callOn k s ∷ map (callOn k) l = rw y at e in
+    let z : q ≡ callOn k s = head-eq-of-cons-eq h in
+    (rw (z, same-refl k), only-asks k calls l (tail-eq-of-cons-eq h)))
+    (λ n. (rw n, only-asks k calls (s ∷ l) (rw n at e)))
+
+pub own-requests : (k : List ℕ) (calls : List Call) → All (λ q. asks k q ≡ same k (q .key)) calls → requestsOn k calls ≡ callsOn k calls
+own-requests k [] h = refl
+own-requests k (q ∷ calls) h = let rest = own-requests k calls (h .1) in by-cases (same k (q .key)) (λ y. rw (h .0, y, rest)) (λ n. rw (h .0, n, rest))
+
+pub own-seen : (h : Handler) (c : Config) (k : List ℕ) (calls : List Call) (w : World) → All (λ q. asks k q ≡ same k (q .key)) calls
+    → runOn k h c w calls ≡ seenOn k (run h c w calls)
+own-seen h c k [] w o = refl
+own-seen h c k (q ∷ calls) w o =
+    let rest = own-seen h c k calls (h c w q .world) (o .1) in
+    by-cases (same k (q .key)) (λ y. rw (o .0, y, rest)) (λ n. rw (o .0, n, rest))
 
 -- ---- what a run of calls starts from, and keeps
 

@@ -56,8 +56,8 @@ given-one strict =
           fits = omega arith;
           prompt = tt;
         };
-        own = refl;
       };
+      own = refl;
       clock = (omega arith, tt);
     }
 
@@ -81,8 +81,8 @@ given-two strict =
           fits = omega arith;
           prompt = (omega arith, tt);
         };
-        own = refl;
       };
+      own = refl;
       clock = (omega arith, (omega arith, (omega arith, (omega arith, (omega arith, (omega arith, tt))))));
     }
 
@@ -115,8 +115,8 @@ given-three strict =
           fits = omega arith;
           prompt = (omega arith, (omega arith, tt));
         };
-        own = refl;
       };
+      own = refl;
       clock = (omega arith, (omega arith, (omega arith, tt)));
     }
 

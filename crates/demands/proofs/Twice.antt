@@ -28,17 +28,17 @@ use Rattle.request_block1.proofs.Steps.{taken-last, spliced-body, spliced-refus
 use Rattle.request_block2.proofs.Steps.{onward-absent}
 use Rattle.request_step.specs.Step.{stepRequest}
 use Rattle.keys.specs.Keys.{keyOk}
-use Rattle.keys.proofs.Keys.{same-refl}
 use Rattle.entries.specs.declared.Entry.{Entry}
 use Rattle.block_table.proofs.TableFits.{row}
 use Rattle.places.specs.Places.{place, opened}
 use Rattle.block_handler.specs.Call.{World, Call, whatOk, call}
 use Rattle.block_handler.proofs.Frame.{WorldFits, fits-limits, key-within, request-took, call-fits}
-use Rattle.demands.specs.Demand3.{after, callsOn, Sent, callOn, block, Each, Fills, joined, All, AllBytes, entryAt}
+use Rattle.demands.specs.Demand3.{after, Sent, callOn, block, Each, Fills, joined, All, AllBytes, entryAt}
+use Rattle.demands.specs.Clocks.{requestsOn}
 use Rattle.demands.specs.Touch.{Placed, RefusesTo, HandsTo}
 use Rattle.demands.specs.Twice.{lastOf, SentAgain, Twice}
 use Rattle.demands.proofs.OwnStep.{OneBlock, form-ok, agrees, held-after, own-last, meets-first}
-use Rattle.demands.proofs.Runs.{all-behind, after-cut, cut, after-clock}
+use Rattle.demands.proofs.Runs.{asks-own, all-behind, after-cut, cut, after-clock}
 use Rattle.demands.proofs.Held.{Held, held-place, held-opened, held-others}
 use Rattle.demands.proofs.Push.{message-ok, shown-part, Pushed, each-block, each-last}
 use Rattle.demands.proofs.Demand3.{pushed}
@@ -115,7 +115,7 @@ joined-length x j s (t ∷ rest) e =
 
 -- the last block's options are bytes, since all calls' are
 module _ (k : List ℕ) where
-  last-bytes : (s : Sent) (rest : List Sent) (calls : List Call) → callsOn k calls ≡ map (callOn k) rest → AllBytes (callOn k s ∷ calls)
+  last-bytes : (s : Sent) (rest : List Sent) (calls : List Call) → requestsOn k calls ≡ map (callOn k) rest → AllBytes (callOn k s ∷ calls)
       → WhatBytes (request (lastOf s rest .message))
   last-bytes s [] calls own ab = ab .0
   last-bytes s (t ∷ rest) calls own ab =
@@ -162,13 +162,13 @@ module _ (c : Config) (w : World) (k : List ℕ) (x : ℕ) (first : Sent) (rest 
       let u = held-others c k (ended .slot) (last .time) (again .time) (a .soon) (ended .behind) (after call c w (ended .front)) (ended .settled) ab nl (ended .own) in
       subst (λ (v : World). Held c v k (ended .slot) (last .time) × (entryAt v (ended .slot) .state .assembled ≡ assembly 0 0))
       (sym (after-cut call c (ended .front) (ended .behind) w) ∙ ap (after call c w) (sym (ended .is)))
-      (u .1, ap (λ (e : Entry). e .state .assembled) (u .0 .entry) ∙ ended .empty)
+      (u .1, u .0 .assembled ∙ ended .empty)
 
   fits : WorldFits c then
   fits = settled .0 .fits
 
   in-time : then .table .clock ≤ again .time
-  in-time = after-clock c (again .time) (callOn k first ∷ later) w (omega (arith, a .granted .clock .0 (same-refl k), a .clock .0)) (a .clock)
+  in-time = after-clock c (again .time) (callOn k first ∷ later) w (omega (arith, a .granted .clock .0 (asks-own k first), a .clock .0)) (a .clock)
 
   in-place : here < 16
   in-place = rw (held-place c then k (ended .slot) (last .time) (settled .0) (again .time) (a .soon)) (settled .0 .slot)
@@ -182,7 +182,7 @@ module _ (c : Config) (w : World) (k : List ℕ) (x : ℕ) (first : Sent) (rest 
       rw (a .same) (rw z at (each-last (OneBlock c x) 0 first rest (each-block c x first rest (a .granted .push .blocks))))
 
   bytes : WhatBytes (request (again .message))
-  bytes = rw (a .same) (last-bytes k first rest later (a .granted .push .own) (a .granted .push .bytes))
+  bytes = rw (a .same) (last-bytes k first rest later (a .granted .own) (a .granted .push .bytes))
 
   body-fits : j * sizeOf x + length (again .message .payload) ≤ c .upload
   body-fits = rw (a .same) (omega (arith, joined-length x 0 first rest (a .granted .push .blocks .full), a .granted .push .blocks .fits))

@@ -1,5 +1,5 @@
--- SIXTEEN TRANSFERS CROSS. From a fresh table: any calls in any order, so long as those that count are over at most sixteen keys. Take a key whose own calls are pushes
--- as demand 3 has them, one after another, as many as you like: each push is answered Continue .., Handed with exactly its joined blocks. What the other keys'
+-- SIXTEEN TRANSFERS CROSS. From a fresh table: any calls in any order, so long as those that count are over at most sixteen keys. Take a key whose requests are pushes
+-- as demand 3 has them, one after another, as many as you like, with its responses anywhere between: each push is answered Continue .., Handed with exactly its joined blocks. What the other keys'
 -- calls are does not matter; if each of the sixteen keys sends pushes, each of the sixteen is served so. In both modes.
 use Prim.Native.Nat.{ℕ, _≤_}
 use mathlib.Core.Bool.{Bool, true, false, cond, _&&_, _||_}
@@ -11,7 +11,8 @@ use Rattle.block_state.specs.declared.Config.{Config}
 use Rattle.block_state.specs.declared.Answer.the-variants.{Refused}
 use Rattle.keys.specs.Keys.{same, keyOk}
 use Rattle.block_handler.specs.Call.{World, Call, done, whatOk}
-use Rattle.demands.specs.Demand3.{Handler, Seen, run, callsOn, seenOn, Sent, callOn, joined, All, AllBytes, Fresh, Blocks, HandsOn}
+use Rattle.demands.specs.Clocks.{asks, requestsOn}
+use Rattle.demands.specs.Demand3.{Handler, Seen, seen, Sent, callOn, joined, All, AllBytes, Fresh, Blocks, HandsOn}
 
 -- ---- Which calls count
 
@@ -28,11 +29,13 @@ abbrev pub counted : ℕ → List Call → List Call
 counted t [] = []
 counted t (q ∷ calls) = cond (counts t q) (q ∷ counted (q .time) calls) (counted t calls)
 
--- What was seen of the calls that count.
-abbrev pub seenCounted : ℕ → List Call → List Seen → List Seen
-seenCounted t [] seen = []
-seenCounted t (q ∷ calls) [] = []
-seenCounted t (q ∷ calls) (s ∷ seen) = cond (counts t q) (s ∷ seenCounted (q .time) calls seen) (seenCounted t calls seen)
+-- What is seen of those of them that are requests on key k, in the run of all calls.
+abbrev pub seenCounted : List ℕ → Handler → Config → World → ℕ → List Call → List Seen
+seenCounted k h c w t [] = []
+seenCounted k h c w t (q ∷ calls) =
+    cond (counts t q)
+    (cond (asks k q) (seen q (h c w q) ∷ seenCounted k h c (h c w q .world) (q .time) calls) (seenCounted k h c (h c w q .world) (q .time) calls))
+    (seenCounted k h c (h c w q .world) t calls)
 
 -- The calls that do not count are refused, with 1 if they are not in form and else with 2, and change nothing.
 abbrev pub UncountedRefused : Handler → Config → World → ℕ → List Call → Type 0
@@ -77,9 +80,9 @@ abbrev pub callsOf : List ℕ → List Transfer → List Call
 callsOf k [] = []
 callsOf k (p ∷ rest) = map (callOn k) (p .first ∷ p .rest) ++ callsOf k rest
 
--- The key's own calls, those that count, are these pushes.
+-- The key's requests, those that count, are these pushes. (Its responses may stand anywhere.)
 pub record Sends (c : Config) (k : List ℕ) (calls : List Call) (pushes : List Transfer) : Type 0 where
-  pub own : callsOn k (counted 0 calls) ≡ callsOf k pushes
+  pub own : requestsOn k (counted 0 calls) ≡ callsOf k pushes
   pub proper : AllProper c pushes
 
 -- ---- What is promised
@@ -95,14 +98,14 @@ unfoldable pub MorningsCross : Handler → Type 0
 MorningsCross h =
     (c : Config) (w : World) (keys : List (List ℕ)) (calls : List Call) → FromFresh c w keys calls
     → (k : List ℕ) (pushes : List Transfer) → Sends c k calls pushes
-    → HandsAll pushes (seenOn k (seenCounted 0 calls (run h c w calls)))
+    → HandsAll pushes (seenCounted k h c w 0 calls)
 
 -- One push on a key: on each of the sixteen at once, since the calls are fixed before the key.
 unfoldable pub SixteenCross : Handler → Type 0
 SixteenCross h =
     (c : Config) (w : World) (keys : List (List ℕ)) (calls : List Call) → FromFresh c w keys calls
     → (k : List ℕ) (p : Transfer) → Sends c k calls (p ∷ [])
-    → HandsOn (joined (p .first) (p .rest)) (seenOn k (seenCounted 0 calls (run h c w calls)))
+    → HandsOn (joined (p .first) (p .rest)) (seenCounted k h c w 0 calls)
 
 -- And the calls that do not count are refused, and change nothing.
 unfoldable pub UncountedAreRefused : Handler → Type 0

@@ -171,8 +171,6 @@ pub record Push (c : Config) (w : World) (k : List ℕ) (x : ℕ) (first : Sent)
   pub sixteen : length (w .table .entries) ≡ 16
   pub bytes : AllBytes (callOn k first ∷ later)
   pub blocks : Blocks c x first rest
-  -- "With any calls for other keys between them and none other for this one".
-  pub own : callsOn k later ≡ map (callOn k) rest
 
 -- The whole of it. "In either mode": nothing is said of c .strict but in `nothing`.
 pub record Granted (c : Config) (w : World) (k : List ℕ) (x : ℕ) (first : Sent) (rest : List Sent) (later : List Call) : Type 0 where
@@ -181,6 +179,8 @@ pub record Granted (c : Config) (w : World) (k : List ℕ) (x : ℕ) (first : Se
   -- .. and, in plain mode, nothing assembled."
   pub nothing : NothingInPlain c w (first .time) k
   pub push : Push c w k x first rest later
+  -- "With any calls for other keys between them and none other for this one".
+  pub own : callsOn k later ≡ map (callOn k) rest
   -- "The clock never goes back": the first block is not before the recorded clock, nor any call before the one that went ahead of it.
   pub clock : Rising (w .table .clock) (callOn k first ∷ later)
 

@@ -78,9 +78,13 @@ onEach s l = map (λ b. callOn (keyOfByte b) (s b)) l
 abbrev pub refused : List Call
 refused = callOn [] (sent 6 [] []) ∷ callOn (1 ∷ []) (sent 3 (0x08 ∷ []) []) ∷ []
 
--- All first blocks; those two; all second blocks, the other way round; all single ones.
+-- The answer to what the first key's first push handed on.
+abbrev pub answering : List Call
+answering = record { time = 9; key = keyOfByte 1; what = response (record { bare = 36; own = false; head = []; payload = 79 ∷ 75 ∷ [] }) } ∷ []
+
+-- All first blocks; those two; all second blocks, the other way round; that answer; all single ones.
 abbrev pub crossing : List Call
-crossing = onEach firstOf bytes ++ (refused ++ (onEach nextOf backwards ++ onEach singleOf bytes))
+crossing = onEach firstOf bytes ++ (refused ++ (onEach nextOf backwards ++ (answering ++ onEach singleOf bytes)))
 
 abbrev pub EachSends : Bool → List ℕ → Type 0
 EachSends strict [] = Unit {0}

@@ -4,7 +4,7 @@
 use Prim.Native.Nat.{ℕ, _+_, _-_, _≤_}
 use mathlib.Core.Bool.{Bool, true, false}
 use mathlib.Core.Path.{_≡_}
-use mathlib.Core.List.{List, [], _∷_, _++_}
+use mathlib.Core.List.{List, [], _∷_, _++_, map}
 use lib.ListN.{length, take, replicate}
 use Rattle.pieces.specs.Memory.{part}
 use Rattle.block_value.specs.Value.{sizeOf}
@@ -21,7 +21,7 @@ use Rattle.keys.specs.Keys.{stored}
 use Rattle.entries.specs.Entries.{inUse, free}
 use Rattle.block_handler.specs.Call.{World, Call, call}
 use Rattle.demands.specs.Shams.{sent}
-use Rattle.demands.specs.Demand3.{Handler, run, seenOn, Sent, callOn, block, joined, Rising, HasLive, Push, HandsOn}
+use Rattle.demands.specs.Demand3.{Handler, run, callsOn, seenOn, Sent, callOn, block, joined, Rising, HasLive, Push, HandsOn}
 
 -- ---- Plain mode
 
@@ -83,6 +83,7 @@ pub record Story : Type 0 where
   -- It is a push as demand 3 has it, on a live entry with bytes assembled: what `StartsAfresh` below asks can be given.
   pub live : HasLive (shop true) cancelled 6 lane
   pub push : Push (shop true) cancelled lane 0 newFirst (newLast ∷ []) (callOn lane newLast ∷ [])
+  pub own : callsOn lane (callOn lane newLast ∷ []) ≡ callOn lane newLast ∷ []
   pub clock : Rising (cancelled .table .clock) newList
 
 -- ---- Strict mode
@@ -91,5 +92,6 @@ pub record Story : Type 0 where
 unfoldable pub StartsAfresh : Handler → Type 0
 StartsAfresh h =
     (c : Config) (w : World) (k : List ℕ) (x : ℕ) (first : Sent) (rest : List Sent) (later : List Call)
-    → c .strict ≡ true → HasLive c w (first .time) k → Push c w k x first rest later → Rising (w .table .clock) (callOn k first ∷ later)
+    → c .strict ≡ true → HasLive c w (first .time) k → Push c w k x first rest later
+    → callsOn k later ≡ map (callOn k) rest → Rising (w .table .clock) (callOn k first ∷ later)
     → HandsOn (joined first rest) (seenOn k (run h c w (callOn k first ∷ later)))

@@ -1,5 +1,5 @@
--- THE LAST BLOCK SENT TWICE. A push was handed on, as demand 3 has it; then its last block comes again, with any calls for other keys between,
--- sooner than one lifetime. In strict mode a push of two blocks or more gets refusal 9 and nothing but the touch changes; one of a single block is handed
+-- THE LAST BLOCK SENT TWICE. A push was handed on, as demand 3 has it; then its last block comes again, with any calls for other keys between, and any responses on
+-- this one (the body's own among them), sooner than one lifetime. In strict mode a push of two blocks or more gets refusal 9 and nothing but the touch changes; one of a single block is handed
 -- on again. In plain mode, for two blocks or more, WHAT IS HANDED ON IS NOT WHAT WAS SENT: zeros in place of all blocks but the last, or refusal 6 where n times
 -- the size is above 16,384.
 use Prim.Native.Nat.{ℕ, _+_, _*_, _≤_, _<_}
@@ -22,8 +22,8 @@ lastOf s (t ∷ rest) = lastOf t rest
 -- ---- What is given
 
 pub record SentAgain (c : Config) (w : World) (k : List ℕ) (x : ℕ) (first : Sent) (rest : List Sent) (later : List Call) (again : Sent) : Type 0 where
-  -- A push as demand 3 has it (other lanes' clocks may go back): block `first`, then the calls `later`, which hold the blocks `rest` and any calls for
-  -- other keys, also behind the last.
+  -- A push as demand 3 has it (other lanes' clocks may go back): block `first`, then the calls `later`, which hold the blocks `rest`, any calls for other keys and any
+  -- responses on this one, also behind the last.
   pub granted : GrantedOwn c w k x first rest later
   -- The message that comes is the last block's, byte for byte ..
   pub same : again .message ≡ lastOf first rest .message

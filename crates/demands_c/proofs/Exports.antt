@@ -10,10 +10,10 @@ use Rattle.block_handler.specs.Call.{World, Call, call}
 use Rattle.replies.specs.Reply.{replyOf, kindNumber}
 use Rattle.replies.proofs.Shown.{body-bytes}
 use Rattle.handler_c.specs.Contract.{Replies}
-use Rattle.demands.specs.Demand3.{Seen, seen, run, after, seenOn, payloadOf, callOn, joined, HandsOn}
-use Rattle.demands.specs.Clocks.{Demand3Own}
+use Rattle.demands.specs.Demand3.{Seen, seen, run, after, payloadOf, callOn, joined, HandsOn}
+use Rattle.demands.specs.Clocks.{asks, runOn, Demand3Own}
 use Rattle.demands.proofs.Demand3.{demand3-own}
-use Rattle.demands_c.specs.Exports.{Returned, SeenInC, seenInC, inC, RunsAreCallsInC, seenOnInC, HandsOnInC, Demand3InC, DeterminedInC}
+use Rattle.demands_c.specs.Exports.{Returned, seenInC, inC, RunsAreCallsInC, seenOnInC, HandsOnInC, Demand3InC, DeterminedInC}
 
 seen-in-C : (c : Config) (w : World) (q : Call) (d : Returned) → Replies c w q (d .world) (d .reply) → seenInC q d ≡ inC (seen q (call c w q))
 seen-in-C c w q d m =
@@ -34,10 +34,9 @@ runs-are-calls-in-C c w (q ∷ calls) (d ∷ results) r =
       rest .1 ∙ ap (λ (w : World). after call c w calls) v,
     )
 
-seen-on-in-C : (k : List ℕ) (l : List Seen) → seenOnInC k (map inC l) ≡ map inC (seenOn k l)
-seen-on-in-C k [] = refl
-seen-on-in-C k (s ∷ l) =
-    by-cases (same k (s .key)) (λ y. rw y (ap (λ (r : List SeenInC). inC s ∷ r) (seen-on-in-C k l))) (λ n. rw n (seen-on-in-C k l))
+seen-on-in-C : (c : Config) (k : List ℕ) (calls : List Call) (w : World) → seenOnInC k calls (map inC (run call c w calls)) ≡ map inC (runOn k call c w calls)
+seen-on-in-C c k [] w = refl
+seen-on-in-C c k (q ∷ calls) w = let rest = seen-on-in-C c k calls (call c w q .world) in by-cases (asks k q) (λ y. rw (y, rest)) (λ n. rw (n, rest))
 
 hands-on-in-C : (bytes : List ℕ) (l : List Seen) → HandsOn bytes l → HandsOnInC bytes (map inC l)
 hands-on-in-C bytes [] h = h
@@ -47,8 +46,8 @@ hands-on-in-C bytes (s ∷ t ∷ l) h = (ap kindNumber (h .0), hands-on-in-C byt
 pub demand3-in-C : Demand3InC
 unfolding Demand3InC RunsAreCallsInC Demand3Own
 demand3-in-C c w k x first rest later results g r =
-    rw (runs-are-calls-in-C c w (callOn k first ∷ later) results r .0, seen-on-in-C k (run call c w (callOn k first ∷ later)))
-    (hands-on-in-C (joined first rest) (seenOn k (run call c w (callOn k first ∷ later))) (demand3-own c w k x first rest later g))
+    rw (runs-are-calls-in-C c w (callOn k first ∷ later) results r .0, seen-on-in-C c k (callOn k first ∷ later) w)
+    (hands-on-in-C (joined first rest) (runOn k call c w (callOn k first ∷ later)) (demand3-own c w k x first rest later g))
 
 pub determined-in-C : DeterminedInC
 unfolding DeterminedInC
