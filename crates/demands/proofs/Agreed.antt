@@ -39,22 +39,22 @@ absent-not b e = let z : _≡_ {A = ℕ} 0 1 = cc in absurd (omega arith)
 
 -- ---- a request's Block1 value
 
-told : (c : Config) (away : ℕ) (s : BlockState) (u : List ℕ) (r : Request) (g : Left) → Outcome c away s u r g
+told : (c : Config) (home away : ℕ) (s : BlockState) (u : List ℕ) (r : Request) (g : Left) → Outcome c home away s u r g
     → (reply : BlockValue) → said (g .answer) .block1 ≡ Given reply → requestAgrees c r ≡ agreed.Block reply
-told c away s u r g (refused n why) reply e = absent-not reply e
-told c away s u r g (past t v x n k is) reply e = absent-not reply e
-told c away s u r g (tooLarge y h) reply e = cc
-told c away s u r g (continued t v b y k h) reply e = cc (k .reached)
-told c away s u r g (onwards t v _ _ none h) reply e = absent-not reply e
-told c away s u r g (onwards t v _ _ (took b y body k) h) reply e = cc (k .reached)
-told c away s u r g (serves t v _ _ x y from to none held asks is h) reply e = absent-not reply e
-told c away s u r g (serves t v _ _ x y from to (took b z body k) held asks is h) reply e = cc (k .reached)
+told c home away s u r g (refused n why) reply e = absent-not reply e
+told c home away s u r g (past t v block1 a z x n k l h is) reply e = absent-not reply e
+told c home away s u r g (tooLarge y h) reply e = cc
+told c home away s u r g (continued t b y n k l h) reply e = cc (k .reached)
+told c home away s u r g (onwards t v _ _ _ none l h) reply e = absent-not reply e
+told c home away s u r g (onwards t v _ _ _ (took b y n k) l h) reply e = cc (k .reached)
+told c home away s u r g (serves t v _ _ _ x y from to none l held asks is h) reply e = absent-not reply e
+told c home away s u r g (serves t v _ _ _ x y from to (took b z n k) l held asks is h) reply e = cc (k .reached)
 
 told-call : (c : Config) (w : World) (q : Call) (r : Request) (reply : BlockValue) → q .what ≡ request r → said (call c w q .answer) .block1 ≡ Given reply
     → requestAgrees c r ≡ agreed.Block reply
 told-call c w q r reply er =
     answered (λ (a : Answer). said a .block1 ≡ Given reply → requestAgrees c r ≡ agreed.Block reply) c w q r er (λ n _ e. absent-not reply e)
-    (λ away u g o. told c away _ u r g o reply)
+    (λ home away u g o. told c home away _ u r g o reply)
 
 -- ---- a response's Block2 value
 

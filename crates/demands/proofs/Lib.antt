@@ -18,5 +18,6 @@ pub mod Pairing
 pub mod Pages
 pub mod Agreed
 pub mod Refusals
+pub mod Uploads
 pub mod Strict
 pub mod Given

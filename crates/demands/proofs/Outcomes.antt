@@ -1,6 +1,6 @@
 -- What a step can come to, gone through once: what is promised of a call's answer is read off these cases. Assumes nothing.
 use Prim.Native.Nat.{ℕ, _+_, _*_, _≤_, _<_}
-use mathlib.Core.Bool.{true, false, not, _&&_}
+use mathlib.Core.Bool.{Bool, true, false, cond, not, _&&_}
 use mathlib.Core.Path.{_≡_, refl, sym, _∙_, ap}
 use mathlib.Core.List.{List, _++_}
 use native.Mathlib.Omega.{arith}
@@ -9,7 +9,7 @@ use lib.Dec.{leb, ltb}
 use borrow.Author.Tests.{not-false, ltb-false, leb-false}
 use Rattle.pieces.specs.Memory.{patch, pieceOf}
 use Rattle.pieces.proofs.Tests.{on-test}
-use Rattle.splicing.specs.Splice.{spliceOf}
+use Rattle.splicing.specs.Splice.{spliceOf, pieceAfter}
 use Rattle.splicing.specs.declared.Splice.{Splice}
 use Rattle.splicing.specs.declared.Splice.the-variants as splice
 use Rattle.block_value.specs.Value.{blockSize, blockStart}
@@ -23,13 +23,13 @@ use Rattle.negotiation.specs.declared.Negotiated.the-variants as agreed
 use Rattle.negotiation.specs.declared.Chunk.{Chunk}
 use Rattle.negotiation.specs.declared.Chunk.the-variants as chunk
 use Rattle.block_state.specs.declared.Config.{Config}
+use Rattle.block_state.specs.declared.Assembled.{Assembled}
 use Rattle.block_state.specs.declared.Cached.{Cached}
 use Rattle.block_state.specs.declared.BlockState.{BlockState}
-use Rattle.block_state.specs.declared.Part.{Part}
 use Rattle.block_state.specs.declared.Answer.{Answer}
 use Rattle.block_state.specs.declared.Answer.the-variants.{Continue, TooLarge, Handed, Pass, Served, Refused}
 use Rattle.block_state.specs.Message.{Request, Response, request}
-use Rattle.block_state.specs.State.{keptWhile, caching, recordedBlock, withRecorded}
+use Rattle.block_state.specs.State.{assembly, keptWhile, caching, recordedBlock, withRecorded}
 use Rattle.block_state.specs.Step.{Left, left, bytesFrom}
 use Rattle.request_block2.specs.Block2 as block2
 use Rattle.request_block1.specs.Block1.{taken, onSplice, block1Given, badForm, notNext, lengthMet}
@@ -40,18 +40,30 @@ use Rattle.block_handler.specs.Call.{World, Call, Done, done, callAt, rowOf, wi
 use Rattle.demands.specs.Pages.{isFirst}
 use Rattle.demands.specs.Agreed.{requestAgrees}
 
-module _ (c : Config) (away : ℕ) (s : BlockState) (u : List ℕ) (r : Request) where
-  -- block b was taken: it is the request's, a reply was agreed on, and strict mode's two tests let it pass
-  pub record TookBlock (b reply : BlockValue) : Type 0 where
+pub cond-same : {A : Type 0} (b : Bool) (x : A) → cond b x x ≡ x
+cond-same true x = refl
+cond-same false x = refl
+
+module _ (c : Config) (home away : ℕ) (s : BlockState) (u : List ℕ) (r : Request) where
+  -- the length that a block meets, and the piece once it is spliced
+  abbrev met : BlockValue → ℕ
+  met b = lengthMet (c .strict) (s .assembled) b
+
+  abbrev pub spliced-by : BlockValue → List ℕ
+  spliced-by b = pieceAfter u (met b) (blockStart b) (blockSize b) (r .payload)
+
+  -- block b was taken, and made a body of n bytes: it is the request's, a reply was agreed on, and strict mode's two tests let it pass
+  pub record TookBlock (b reply : BlockValue) (n : ℕ) : Type 0 where
     pub given : requestBlock (r .block1) ≡ Given b
     pub reached : requestAgrees c r ≡ agreed.Block reply
     pub form : (c .strict && badForm b (length (r .payload))) ≡ false
     pub next : (c .strict && notNext (s .assembled) b) ≡ false
+    pub body : spliceOf (c .upload) (met b) (blockStart b) (blockSize b) (length (r .payload)) ≡ splice.Body n
 
-  -- the Block1 value that goes out, and the answer if nothing is served
-  pub data Block1 : MaybeBlock → Answer → Type 0 where
-    none : Block1 Absent Pass
-    took : (b reply : BlockValue) (body : Part) → TookBlock b reply → Block1 (Given reply) (Handed reply body)
+  -- the Block1 value that goes out, the answer if nothing is served, and what is left of the assembly and of its piece
+  pub data Block1 : MaybeBlock → Answer → Assembled → List ℕ → Type 0 where
+    none : Block1 Absent Pass (s .assembled) u
+    took : (b reply : BlockValue) (n : ℕ) → TookBlock b reply n → Block1 (Given reply) (Handed reply (bytesFrom home n)) (assembly 0 0) (spliced-by b)
 
   -- why the step is refused with nothing changed
   pub data Why : ℕ → Type 0 where
@@ -60,59 +72,63 @@ module _ (c : Config) (away : ℕ) (s : BlockState) (u : List ℕ) (r : Request)
         → (c .strict && badForm b (length (r .payload))) ≡ true → Why 10
     astray : (b reply : BlockValue) → requestBlock (r .block1) ≡ Given b → requestAgrees c r ≡ agreed.Block reply
         → (c .strict && badForm b (length (r .payload))) ≡ false → (c .strict && notNext (s .assembled) b) ≡ true → Why 9
-    unspliced : (b reply : BlockValue) (l n : ℕ) → TookBlock b reply → spliceOf (c .upload) l (blockStart b) (blockSize b) (length (r .payload)) ≡ splice.Refused n → Why n
+    unspliced : (b : BlockValue) (n : ℕ) → spliceOf (c .upload) (met b) (blockStart b) (blockSize b) (length (r .payload)) ≡ splice.Refused n → Why n
 
   pub data Outcome : Left → Type 0 where
     refused : (n : ℕ) → Why n → Outcome (left s u (Refused n))
-    past : (t : BlockState) (v : List ℕ) (x : BlockValue) (n : ℕ) → t .cached ≡ s .cached → chunkOf x (s .cached .payload) ≡ chunk.Refused n → Outcome (left t v (Refused n))
+    past : (t : BlockState) (v : List ℕ) (block1 : MaybeBlock) (a : Answer) (z : Assembled) (x : BlockValue) (n : ℕ) → Block1 block1 a z v → t .assembled ≡ z
+        → t .cached ≡ s .cached → chunkOf x (s .cached .payload) ≡ chunk.Refused n → Outcome (left t v (Refused n))
     tooLarge : (reply : BlockValue) → requestAgrees c r ≡ agreed.Block reply → Outcome (left s u (TooLarge reply))
-    continued : (t : BlockState) (v : List ℕ) (b reply : BlockValue) → TookBlock b reply → t .cached ≡ s .cached → Outcome (left t v (Continue reply))
-    onwards : (t : BlockState) (v : List ℕ) (block1 : MaybeBlock) (a : Answer) → Block1 block1 a → t .cached ≡ s .cached → Outcome (left t v a)
-    serves : (t : BlockState) (v : List ℕ) (block1 : MaybeBlock) (a : Answer) (x y : BlockValue) (from to : ℕ) → Block1 block1 a → s .cached .held ≡ true
-        → requestBlock (r .block2) ≡ Given x → chunkOf x (s .cached .payload) ≡ chunk.Bytes y from to → t .cached ≡ keptWhile (y .more) (s .cached)
+    continued : (t : BlockState) (b reply : BlockValue) (n : ℕ) → TookBlock b reply n → t .assembled ≡ assembly n (b .«size_exponent»)
+        → t .cached ≡ s .cached → Outcome (left t (spliced-by b) (Continue reply))
+    onwards : (t : BlockState) (v : List ℕ) (block1 : MaybeBlock) (a : Answer) (z : Assembled) → Block1 block1 a z v → t .assembled ≡ z
+        → t .cached ≡ s .cached → Outcome (left t v a)
+    serves : (t : BlockState) (v : List ℕ) (block1 : MaybeBlock) (a : Answer) (z : Assembled) (x y : BlockValue) (from to : ℕ) → Block1 block1 a z v
+        → t .assembled ≡ z → s .cached .held ≡ true → requestBlock (r .block2) ≡ Given x → chunkOf x (s .cached .payload) ≡ chunk.Bytes y from to
+        → t .cached ≡ keptWhile (y .more) (s .cached)
         → Outcome
         (left t v (Served block1 y (bytesFrom away (s .cached .head)) (record { from = away + s .cached .head + from; to = away + s .cached .head + to })))
 
-  of-chunk : (t : BlockState) → t .cached ≡ s .cached → s .cached .held ≡ true → (v : List ℕ) (block1 : MaybeBlock) (a : Answer) → Block1 block1 a
-      → (x : BlockValue) → requestBlock (r .block2) ≡ Given x → (ch : Chunk) → chunkOf x (s .cached .payload) ≡ ch → Outcome (block2.served away t v block1 ch)
-  unfolding block2.served
-  of-chunk t e held v block1 a k x asks (chunk.Refused n) is = past t v x n e is
-  of-chunk t e held v block1 a k x asks (chunk.Bytes y from to) is = rw e (serves _ v block1 a x y from to k held asks is refl)
+  module _ (t : BlockState) (v : List ℕ) (block1 : MaybeBlock) (a : Answer) (z : Assembled) (k : Block1 block1 a z v) (left-so : t .assembled ≡ z)
+      (e : t .cached ≡ s .cached) where
+    of-chunk : s .cached .held ≡ true → (x : BlockValue) → requestBlock (r .block2) ≡ Given x → (ch : Chunk) → chunkOf x (s .cached .payload) ≡ ch
+        → Outcome (block2.served away (withRecorded t (Given x)) v block1 ch)
+    unfolding block2.served
+    of-chunk held x asks (chunk.Refused n) is = past _ v block1 a z x n k left-so e is
+    of-chunk held x asks (chunk.Bytes y from to) is = rw e (serves _ v block1 a z x y from to k left-so held asks is refl)
 
-  of-block2 : (t : BlockState) → t .cached ≡ s .cached → (v : List ℕ) (asked block1 : MaybeBlock) → requestBlock (r .block2) ≡ asked → (a : Answer) → Block1 block1 a
-      → Outcome (block2.onward away t v asked block1 a)
-  unfolding block2.onward
-  of-block2 t e v Absent block1 asks a k = onwards _ v block1 a k e
-  of-block2 t e v (Given x) block1 asks a k =
-      let same : chunkOf x (s .cached .payload) ≡ chunkOf x (t .cached .payload) = ap (λ (y : Cached). chunkOf x (y .payload)) (sym e) in
-      on-test Outcome (t .cached .held)
-      (λ held. of-chunk (withRecorded t (Given x)) e (sym (ap (λ (y : Cached). y .held) e) ∙ held) v block1 a k x asks (chunkOf x (t .cached .payload)) same)
-      (λ _. onwards _ v block1 a k e)
+    of-block2 : (asked : MaybeBlock) → requestBlock (r .block2) ≡ asked → Outcome (block2.onward away t v asked block1 a)
+    unfolding block2.onward
+    of-block2 Absent asks = onwards _ v block1 a z k left-so e
+    of-block2 (Given x) asks =
+        let same : chunkOf x (s .cached .payload) ≡ chunkOf x (t .cached .payload) = ap (λ (y : Cached). chunkOf x (y .payload)) (sym e) in
+        on-test Outcome (t .cached .held) (λ held. of-chunk (sym (ap (λ (y : Cached). y .held) e) ∙ held) x asks (chunkOf x (t .cached .payload)) same)
+        (λ _. onwards _ v block1 a z k left-so e)
 
-  of-splice : (home : ℕ) (b reply : BlockValue) → TookBlock b reply → (l : ℕ) (sp : Splice)
-      → spliceOf (c .upload) l (blockStart b) (blockSize b) (length (r .payload)) ≡ sp
-      → Outcome (onSplice home away s u (requestBlock (r .block2)) (r .payload) b reply l sp)
+  of-splice : (b reply : BlockValue) → ((n : ℕ) → spliceOf (c .upload) (met b) (blockStart b) (blockSize b) (length (r .payload)) ≡ splice.Body n → TookBlock b reply n)
+      → (sp : Splice) → spliceOf (c .upload) (met b) (blockStart b) (blockSize b) (length (r .payload)) ≡ sp
+      → Outcome (onSplice home away s u (requestBlock (r .block2)) (r .payload) b reply (met b) sp)
   unfolding onSplice taken
-  of-splice home b reply k l (splice.Refused n) is = refused n (unspliced b reply l n k is)
-  of-splice home b reply k l (splice.Body n) is =
-      on-test Outcome (b .more) (λ _. continued _ _ b reply k refl) (λ _. of-block2 _ refl _ (requestBlock (r .block2)) (Given reply) refl _ (took b reply _ k))
+  of-splice b reply k (splice.Refused n) is = refused n (unspliced b n is)
+  of-splice b reply k (splice.Body n) is =
+      on-test Outcome (b .more) (λ _. continued _ b reply n (k n is) refl refl)
+      (λ _. of-block2 _ _ (Given reply) _ _ (took b reply n (k n is)) refl refl (requestBlock (r .block2)) refl)
 
-  of-negotiated : (home : ℕ) (block1 : MaybeBlock) → requestBlock (r .block1) ≡ block1 → (n : Negotiated) → requestAgrees c r ≡ n
+  of-negotiated : (block1 : MaybeBlock) → requestBlock (r .block1) ≡ block1 → (n : Negotiated) → requestAgrees c r ≡ n
       → Outcome (onNegotiated c home away s u (requestBlock (r .block2)) (r .payload) block1 n)
   unfolding onNegotiated block1Given
-  of-negotiated home block1 given (agreed.Refused n) e = refused n (unagreed n e)
-  of-negotiated home block1 given agreed.NoBlock e = of-block2 s refl u (requestBlock (r .block2)) Absent refl Pass none
-  of-negotiated home Absent given (agreed.Block reply) e = tooLarge reply e
-  of-negotiated home (Given b) given (agreed.Block reply) e =
-      let l : ℕ = lengthMet (c .strict) (s .assembled) b in
+  of-negotiated block1 given (agreed.Refused n) e = refused n (unagreed n e)
+  of-negotiated block1 given agreed.NoBlock e = of-block2 s u Absent Pass (s .assembled) none refl refl (requestBlock (r .block2)) refl
+  of-negotiated Absent given (agreed.Block reply) e = tooLarge reply e
+  of-negotiated (Given b) given (agreed.Block reply) e =
       on-test Outcome (c .strict && badForm b (length (r .payload))) (λ y. refused 10 (badly b reply given e y))
       (λ form. on-test Outcome (c .strict && notNext (s .assembled) b) (λ y. refused 9 (astray b reply given e form y))
-      (λ next. of-splice home b reply (record { given = given; reached = e; form = form; next = next }) l
-      (spliceOf (c .upload) l (blockStart b) (blockSize b) (length (r .payload))) refl))
+      (λ next. of-splice b reply (λ n is. record { given = given; reached = e; form = form; next = next; body = is })
+      (spliceOf (c .upload) (met b) (blockStart b) (blockSize b) (length (r .payload))) refl))
 
-  pub outcome : (home : ℕ) → Outcome (stepRequest c home away s u r)
+  pub outcome : Outcome (stepRequest c home away s u r)
   unfolding stepRequest
-  outcome home = of-negotiated home (requestBlock (r .block1)) refl (requestAgrees c r) refl
+  outcome = of-negotiated (requestBlock (r .block1)) refl (requestAgrees c r) refl
 
 -- ---- a response's step: nothing is stored, or First is answered
 
@@ -159,10 +175,10 @@ early-or-placed P c w q early placed =
 
 -- so a request's answer is an early refusal, or that of an outcome on its key's state
 pub answered : (P : Answer → Type 0) (c : Config) (w : World) (q : Call) (r : Request) → q .what ≡ request r → ((n : ℕ) → n ≤ 3 → P (Refused n))
-    → ((away : ℕ) (u : List ℕ) (g : Left) → Outcome c away (opened (q .key) (rowOf c w q) .state) u r g → P (g .answer)) → P (call c w q .answer)
+    → ((home away : ℕ) (u : List ℕ) (g : Left) → Outcome c home away (opened (q .key) (rowOf c w q) .state) u r g → P (g .answer)) → P (call c w q .answer)
 unfolding callAt
 answered P c w q r e early step =
     let i : ℕ = place (q .key) (rowOf c w q) in
     let u : List ℕ = pieceOf (c .upload) i (w .upload) in
     early-or-placed (λ (d : Done). P (d .answer)) c w q early
-    (λ ok later i16. rw e (step (i * c .response) u _ (outcome c (i * c .response) (opened (q .key) (rowOf c w q) .state) u r (i * c .upload))))
+    (λ ok later i16. rw e (step (i * c .upload) (i * c .response) u _ (outcome c (i * c .upload) (i * c .response) (opened (q .key) (rowOf c w q) .state) u r)))

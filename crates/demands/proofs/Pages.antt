@@ -45,20 +45,20 @@ use Rattle.block_handler.specs.Call.{World, Call, Done, callAt, rowOf, call}
 use Rattle.block_handler.proofs.Frame.{WorldFits, call-cases, call-fits}
 use Rattle.demands.specs.Demand3.{after, AllBytes, entryAt}
 use Rattle.demands.proofs.OwnStep.{held-after}
-use Rattle.demands.proofs.Outcomes.{Storing, as-before, stores, storing, Outcome, refused, past, tooLarge, continued, onwards, serves, none as no-block1, took, outcome}
+use Rattle.demands.proofs.Outcomes.{cond-same, Storing, as-before, stores, storing, Outcome, refused, past, tooLarge, continued, onwards, serves, none as no-block1, took, outcome}
 use Rattle.demands.proofs.Runs.{fresh-fits, after-fits}
 use Rattle.demands.proofs.Push.{shown-part}
 use Rattle.demands.specs.Pages.{Page, storedBy, noted, lastStored, ShowsPage, ServesThePage}
 
 -- ---- a request's step: the cache stays or goes
 
-stays : (c : Config) (away : ℕ) (s : BlockState) (u : List ℕ) (r : Request) (g : Left) → Outcome c away s u r g → g .state .cached .held ≡ true → g .state .cached ≡ s .cached
-stays c away s u r g (refused n why) h = refl
-stays c away s u r g (past t v x n e is) h = e
-stays c away s u r g (tooLarge reply e) h = refl
-stays c away s u r g (continued t v b reply k e) h = e
-stays c away s u r g (onwards t v block1 a k e) h = e
-stays c away s u r g (serves t v block1 a x y from to k held asks is e) h = kept (y .more) e h
+stays : (c : Config) (home away : ℕ) (s : BlockState) (u : List ℕ) (r : Request) (g : Left) → Outcome c home away s u r g → g .state .cached .held ≡ true → g .state .cached ≡ s .cached
+stays c home away s u r g (refused n why) h = refl
+stays c home away s u r g (past t v block1 a z x n k y e is) h = e
+stays c home away s u r g (tooLarge reply e) h = refl
+stays c home away s u r g (continued t b reply n k y e) h = e
+stays c home away s u r g (onwards t v block1 a z k y e) h = e
+stays c home away s u r g (serves t v block1 a z x y from to k l held asks is e) h = kept (y .more) e h
   where
     kept : (m : Bool) → t .cached ≡ keptWhile m (s .cached) → t .cached .held ≡ true → t .cached ≡ s .cached
     kept true e h = e
@@ -87,14 +87,14 @@ From s away block2 (Whole b part) = Unit {0}
 From s away block2 (First b part) = Unit {0}
 From s away block2 (Refused n) = Unit {0}
 
-from-request : (c : Config) (away : ℕ) (s : BlockState) (u : List ℕ) (r : Request) (g : Left) → Outcome c away s u r g → From s away (requestBlock (r .block2)) (g .answer)
-from-request c away s u r g (refused n why) = tt
-from-request c away s u r g (past t v x n e is) = tt
-from-request c away s u r g (tooLarge reply e) = tt
-from-request c away s u r g (continued t v b reply k e) = tt
-from-request c away s u r g (onwards t v _ _ no-block1 e) = tt
-from-request c away s u r g (onwards t v _ _ (took b reply body k) e) = tt
-from-request c away s u r g (serves t v block1 a x y from to k held asks is e) =
+from-request : (c : Config) (home away : ℕ) (s : BlockState) (u : List ℕ) (r : Request) (g : Left) → Outcome c home away s u r g → From s away (requestBlock (r .block2)) (g .answer)
+from-request c home away s u r g (refused n why) = tt
+from-request c home away s u r g (past t v block1 a z x n k y e is) = tt
+from-request c home away s u r g (tooLarge reply e) = tt
+from-request c home away s u r g (continued t b reply n k y e) = tt
+from-request c home away s u r g (onwards t v _ _ _ no-block1 y e) = tt
+from-request c home away s u r g (onwards t v _ _ _ (took b reply n k) y e) = tt
+from-request c home away s u r g (serves t v block1 a z x y from to k l held asks is e) =
     record { held = held; asked = x; asks = asks; from = from; to = to; bytes = is; its-head = refl; its-part = refl }
 
 -- ---- what the table caches for the key is the page
@@ -121,10 +121,6 @@ caches-moved c mem mem′ i y p e h =
 piece-self : (u i : ℕ) (m : List ℕ) → i * u + u ≤ length m → putPiece u i (pieceOf u i m) m ≡ m
 unfolding pieceOf putPiece
 piece-self u i m h = patch-self m (i * u) u h
-
-cond-same : {A : Type 0} (b : Bool) (x : A) → cond b x x ≡ x
-cond-same true x = refl
-cond-same false x = refl
 
 module _ (c : Config) (w : World) (q : Call) (k : List ℕ) (p : Option Page) (f : WorldFits c w) (known : Known c w k p) where
   abbrev found : List Entry
@@ -227,10 +223,11 @@ module _ (c : Config) (w : World) (q : Call) (k : List ℕ) (p : Option Page) (f
         (entryAt (callAt c w (q .time) found here e x .world) i)
     unfolding callAt
     placed (request r) i i16 =
+        let home : ℕ = here * c .upload in
         let away : ℕ = here * c .response in
         let u : List ℕ = pieceOf (c .upload) here (w .upload) in
         rw (cond-same (same k (q .key)) p)
-        (put-back _ (stays c away (e .state) u r _ (outcome c away (e .state) u r (here * c .upload))) i i16)
+        (put-back _ (stays c home away (e .state) u r _ (outcome c home away (e .state) u r)) i i16)
     placed (response r) i i16 = stored-entry r _ (storing c (e .state) (pieceOf (c .response) here (w .response)) r) i i16
 
   refused-noted : (n : ℕ) → noted k p q (Refused n) ≡ p
@@ -300,7 +297,7 @@ served-page c w q p r block1 b head part f known er =
     let inside : i * c .response + c .response ≤ length (w .response) = omega (arith, f .response, piece-order i 16 (c .response) i16) in
     let g : ServedFrom (s .cached) away (requestBlock (r .block2)) b head part =
     subst (From s away (requestBlock (r .block2))) e
-    (from-request c away s (pieceOf (c .upload) i (w .upload)) r _ (outcome c away s (pieceOf (c .upload) i (w .upload)) r (i * c .upload))) in
+    (from-request c (i * c .upload) away s (pieceOf (c .upload) i (w .upload)) r _ (outcome c (i * c .upload) away s (pieceOf (c .upload) i (w .upload)) r)) in
     let h : Caches c (w .response) i (s .cached) p = opened-entry c w q (q .key) p f known i16 (same-refl (q .key)) (g .held) in
     let n : length (h .page .head ++ h .page .payload) ≡ length (h .page .head) + length (h .page .payload) = length-append (h .page .head) (h .page .payload) in
     let shows-head : partOf (w .response) head ≡ h .page .head =

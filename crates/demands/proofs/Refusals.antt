@@ -38,7 +38,8 @@ use Rattle.demands.specs.Demand3.{entryAt}
 use Rattle.demands.specs.Touch.{Placed, touched}
 use Rattle.demands.specs.Refusals.{RefusalsLeave}
 use Rattle.demands.proofs.Pairing.{refusal-number}
-use Rattle.demands.proofs.Outcomes.{Storing, as-before, stores, storing, Why, unagreed, badly, astray, unspliced, Outcome, refused, past, tooLarge, continued, onwards, serves, none, took, outcome, early-or-placed}
+use Rattle.demands.proofs.Outcomes.{Storing, as-before, stores, storing, Why, unagreed, badly, astray, unspliced, Outcome}
+use Rattle.demands.proofs.Outcomes.{refused, past, tooLarge, continued, onwards, serves, none, took, outcome, early-or-placed}
 use Rattle.demands.proofs.Touch.{made, refused-touches, response-touches}
 use Rattle.demands.specs.Pages.{isFirst}
 
@@ -66,33 +67,33 @@ chunk-number b m n =
 
 -- ---- a request's step that is refused: with nothing changed, or by a chunk past the end
 
-module _ (c : Config) (away : ℕ) (s : BlockState) (u : List ℕ) (r : Request) (n : ℕ) where
-  pub of-refusal : (P : Left → Type 0) → ((m : ℕ) → m ≡ n → Why c away s u r m → P (left s u (Refused m)))
+module _ (c : Config) (home away : ℕ) (s : BlockState) (u : List ℕ) (r : Request) (n : ℕ) where
+  pub of-refusal : (P : Left → Type 0) → ((m : ℕ) → m ≡ n → Why c home away s u r m → P (left s u (Refused m)))
       → ((m : ℕ) → m ≡ n → n ≡ 8 → (t : BlockState) (v : List ℕ) → t .cached ≡ s .cached → P (left t v (Refused m)))
-      → (g : Left) → Outcome c away s u r g → g .answer ≡ Refused n → P g
+      → (g : Left) → Outcome c home away s u r g → g .answer ≡ Refused n → P g
   of-refusal P why over g (refused m k) e = why m (same-number m n e) k
-  of-refusal P why over g (past t v x m k is) e = over m (same-number m n e) (sym (same-number m n e) ∙ chunk-number x _ m is) t v k
+  of-refusal P why over g (past t v block1 a z x m k l h is) e = over m (same-number m n e) (sym (same-number m n e) ∙ chunk-number x _ m is) t v h
   of-refusal P why over g (tooLarge reply k) e = never (cc)
-  of-refusal P why over g (continued t v b reply k h) e = never (cc)
-  of-refusal P why over g (onwards t v _ _ none h) e = never (cc)
-  of-refusal P why over g (onwards t v _ _ (took b reply body k) h) e = never (cc)
-  of-refusal P why over g (serves t v _ _ x y from to k held asks is h) e = never (cc)
+  of-refusal P why over g (continued t b reply m k l h) e = never (cc)
+  of-refusal P why over g (onwards t v _ _ _ none l h) e = never (cc)
+  of-refusal P why over g (onwards t v _ _ _ (took b reply m k) l h) e = never (cc)
+  of-refusal P why over g (serves t v _ _ _ x y from to k l held asks is h) e = never (cc)
 
 -- a step that leaves everything is refused with 4 to 10, and not with 8
-pub why-number : (c : Config) (away : ℕ) (s : BlockState) (u : List ℕ) (r : Request) (n : ℕ) → Why c away s u r n → (4 ≤ n) × (n ≤ 10) × (n ≡ 8 → ⊥)
-why-number c away s u r n (unagreed m e) =
+pub why-number : (c : Config) (home away : ℕ) (s : BlockState) (u : List ℕ) (r : Request) (n : ℕ) → Why c home away s u r n → (4 ≤ n) × (n ≤ 10) × (n ≡ 8 → ⊥)
+why-number c home away s u r n (unagreed m e) =
     ⊎-elim (λ (z : m ≡ 4). (omega arith, omega arith, λ y. omega arith)) (λ (z : m ≡ 5). (omega arith, omega arith, λ y. omega arith)) (refusal-number _ _ _ _ m e)
-why-number c away s u r n (badly b reply given e y) = (omega arith, omega arith, λ y. omega arith)
-why-number c away s u r n (astray b reply given e f y) = (omega arith, omega arith, λ y. omega arith)
-why-number c away s u r n (unspliced b reply l m k e) =
-    ⊎-elim (λ (z : m ≡ 6). (omega arith, omega arith, λ y. omega arith)) (λ (z : m ≡ 7). (omega arith, omega arith, λ y. omega arith)) (splice-number _ l _ _ _ m e)
+why-number c home away s u r n (badly b reply given e y) = (omega arith, omega arith, λ y. omega arith)
+why-number c home away s u r n (astray b reply given e f y) = (omega arith, omega arith, λ y. omega arith)
+why-number c home away s u r n (unspliced b m e) =
+    ⊎-elim (λ (z : m ≡ 6). (omega arith, omega arith, λ y. omega arith)) (λ (z : m ≡ 7). (omega arith, omega arith, λ y. omega arith)) (splice-number _ _ _ _ _ m e)
 
 abbrev Late : ℕ → Left → Type 0
 Late n g = g .answer ≡ Refused n → (4 ≤ n) × (n ≤ 10)
 
-request-number : (c : Config) (away : ℕ) (s : BlockState) (u : List ℕ) (r : Request) (g : Left) → Outcome c away s u r g → (n : ℕ) → Late n g
-request-number c away s u r g o n =
-    of-refusal c away s u r n (λ g. (4 ≤ n) × (n ≤ 10)) (λ m z why. let k = why-number c away s u r m why in (omega arith, omega arith))
+request-number : (c : Config) (home away : ℕ) (s : BlockState) (u : List ℕ) (r : Request) (g : Left) → Outcome c home away s u r g → (n : ℕ) → Late n g
+request-number c home away s u r g o n =
+    of-refusal c home away s u r n (λ g. (4 ≤ n) × (n ≤ 10)) (λ m z why. let k = why-number c home away s u r m why in (omega arith, omega arith))
     (λ m z y t v k. (omega arith, omega arith)) g o
 
 response-number : (c : Config) (s : BlockState) (d : List ℕ) (r : Response) (n : ℕ) → Late n (stepResponse c s d r)
@@ -119,14 +120,14 @@ response-number c s d r n =
 
 -- ---- what is left
 
-request-same : (c : Config) (away : ℕ) (s : BlockState) (u : List ℕ) (r : Request) (n : ℕ) → (n ≡ 8 → ⊥) → (g : Left) → Outcome c away s u r g → g .answer ≡ Refused n
+request-same : (c : Config) (home away : ℕ) (s : BlockState) (u : List ℕ) (r : Request) (n : ℕ) → (n ≡ 8 → ⊥) → (g : Left) → Outcome c home away s u r g → g .answer ≡ Refused n
     → g ≡ left s u (Refused n)
-request-same c away s u r n no8 =
-    of-refusal c away s u r n (λ g. g ≡ left s u (Refused n)) (λ m z why. ap (λ (k : ℕ). left s u (Refused k)) z) (λ m z y t v k. absurd (no8 y))
+request-same c home away s u r n no8 =
+    of-refusal c home away s u r n (λ g. g ≡ left s u (Refused n)) (λ m z why. ap (λ (k : ℕ). left s u (Refused k)) z) (λ m z y t v k. absurd (no8 y))
 
-request-cache : (c : Config) (away : ℕ) (s : BlockState) (u : List ℕ) (r : Request) (n : ℕ) (g : Left) → Outcome c away s u r g → g .answer ≡ Refused n
+request-cache : (c : Config) (home away : ℕ) (s : BlockState) (u : List ℕ) (r : Request) (n : ℕ) (g : Left) → Outcome c home away s u r g → g .answer ≡ Refused n
     → g .state .cached ≡ s .cached
-request-cache c away s u r n = of-refusal c away s u r n (λ g. g .state .cached ≡ s .cached) (λ m z why. refl) (λ m z y t v k. k)
+request-cache c home away s u r n = of-refusal c home away s u r n (λ g. g .state .cached ≡ s .cached) (λ m z why. refl) (λ m z y t v k. k)
 
 response-same : (c : Config) (s : BlockState) (d : List ℕ) (r : Response) (n : ℕ) (g : Left) → Storing c s d (r .head) (r .payload) g → g .answer ≡ Refused n → g ≡ left s d (Refused n)
 response-same c s d r n g (as-before a no-first) e = ap (λ (y : Answer). left s d y) e
@@ -144,7 +145,7 @@ module _ (c : Config) (w : World) (q : Call) where
 
   step-number : (x : What) (n : ℕ) → callAt c w (q .time) (rowOf c w q) i (opened (q .key) (rowOf c w q)) x .answer ≡ Refused n → (4 ≤ n) × (n ≤ 10)
   unfolding callAt
-  step-number (request r) n = request-number c (i * c .response) s u r _ (outcome c (i * c .response) s u r (i * c .upload)) n
+  step-number (request r) n = request-number c (i * c .upload) (i * c .response) s u r _ (outcome c (i * c .upload) (i * c .response) s u r) n
   step-number (response r) n = response-number c s (pieceOf (c .response) i (w .response)) r n
 
   ten-at-most : (n : ℕ) → call c w q .answer ≡ Refused n → n ≤ 10
@@ -167,7 +168,7 @@ module _ (c : Config) (w : World) (q : Call) where
     unfolding callAt
     of-request r er no8 =
         let step = rw (made c w q has-place, er) at e in
-        refused-touches c w q has-place r er n (request-same c (i * c .response) s u r n no8 _ (outcome c (i * c .response) s u r (i * c .upload)) step) .1
+        refused-touches c w q has-place r er n (request-same c (i * c .upload) (i * c .response) s u r n no8 _ (outcome c (i * c .upload) (i * c .response) s u r) step) .1
 
     of-response : (r : Response) → q .what ≡ response r → call c w q .world ≡ touched c w q
     unfolding callAt
@@ -187,7 +188,7 @@ module _ (c : Config) (w : World) (q : Call) where
         let long : length (rowOf c w q) ≡ 16 = row-length c (w .table) (q .time) (f .table) sixteen in
         let step = rw (made c w q has-place, er) at e in
         rw (made c w q has-place, er, at-set-same (rowOf c w q) i _ (omega (arith, has-place .place)))
-        (request-cache c (i * c .response) s u r n _ (outcome c (i * c .response) s u r (i * c .upload)) step)
+        (request-cache c (i * c .upload) (i * c .response) s u r n _ (outcome c (i * c .upload) (i * c .response) s u r) step)
 
 pub refusals-leave : RefusalsLeave call
 refusals-leave =

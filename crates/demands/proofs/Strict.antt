@@ -132,27 +132,27 @@ exponent-read (some (x ∷ y ∷ v ∷ l)) b e = let z : _≡_ {A = ℕ} 0 1 = c
 
 -- ---- a block that was taken
 
-taken-as : (c : Config) (away : ℕ) (s : BlockState) (u : List ℕ) (r : Request) (b reply : BlockValue) → c .strict ≡ true → TookBlock c away s u r b reply
+taken-as : (c : Config) (home away : ℕ) (s : BlockState) (u : List ℕ) (r : Request) (b reply : BlockValue) (n : ℕ) → c .strict ≡ true → TookBlock c home away s u r b reply n
     → (x : BlockValue) × RightlyTaken (s .assembled) r x
-taken-as c away s u r b reply strict k =
+taken-as c home away s u r b reply n strict k =
     (b, good-is (s .assembled) r b (k .given) (exponent-read (r .block1) b (k .given)) (rw strict at (k .form)) (rw strict at (k .next)))
 
-step-took : (c : Config) (away : ℕ) (s : BlockState) (u : List ℕ) (r : Request) (g : Left) → c .strict ≡ true → Outcome c away s u r g → tookBlock (g .answer) ≡ true
+step-took : (c : Config) (home away : ℕ) (s : BlockState) (u : List ℕ) (r : Request) (g : Left) → c .strict ≡ true → Outcome c home away s u r g → tookBlock (g .answer) ≡ true
     → (b : BlockValue) × RightlyTaken (s .assembled) r b
-step-took c away s u r g strict (refused n why) h = absurd (false≢true h)
-step-took c away s u r g strict (past t v x n e is) h = absurd (false≢true h)
-step-took c away s u r g strict (tooLarge reply e) h = absurd (false≢true h)
-step-took c away s u r g strict (continued t v b reply k e) h = taken-as c away s u r b reply strict k
-step-took c away s u r g strict (onwards t v _ _ none e) h = absurd (false≢true h)
-step-took c away s u r g strict (onwards t v _ _ (took b reply body k) e) h = taken-as c away s u r b reply strict k
-step-took c away s u r g strict (serves t v _ _ x y from to none held asks is e) h = absurd (false≢true h)
-step-took c away s u r g strict (serves t v _ _ x y from to (took b reply body k) held asks is e) h = taken-as c away s u r b reply strict k
+step-took c home away s u r g strict (refused n why) h = absurd (false≢true h)
+step-took c home away s u r g strict (past t v block1 a z x n k l e is) h = absurd (false≢true h)
+step-took c home away s u r g strict (tooLarge reply e) h = absurd (false≢true h)
+step-took c home away s u r g strict (continued t b reply n k l e) h = taken-as c home away s u r b reply n strict k
+step-took c home away s u r g strict (onwards t v _ _ _ none l e) h = absurd (false≢true h)
+step-took c home away s u r g strict (onwards t v _ _ _ (took b reply n k) l e) h = taken-as c home away s u r b reply n strict k
+step-took c home away s u r g strict (serves t v _ _ _ x y from to none l held asks is e) h = absurd (false≢true h)
+step-took c home away s u r g strict (serves t v _ _ _ x y from to (took b reply n k) l held asks is e) h = taken-as c home away s u r b reply n strict k
 
 taken-rightly : (c : Config) (w : World) (q : Call) (r : Request) → c .strict ≡ true → q .what ≡ request r → tookBlock (call c w q .answer) ≡ true
     → (b : BlockValue) × RightlyTaken (assembledFor c w q) r b
 taken-rightly c w q r strict e =
     answered (λ (a : Answer). tookBlock a ≡ true → (b : BlockValue) × RightlyTaken (assembledFor c w q) r b) c w q r e (λ n _ h. absurd (false≢true h))
-    (λ away u g o. step-took c away _ u r g strict o)
+    (λ home away u g o. step-took c home away _ u r g strict o)
 
 -- ---- a block that is refused
 
@@ -188,35 +188,35 @@ module _ (c : Config) (w : World) (q : Call) (r : Request) (asks : q .what ≡ r
   abbrev Nine : Type 0
   Nine = (c .strict ≡ true) × (b : BlockValue) × (requestBlock (r .block1) ≡ Given b) × (BadlyFormed b (length (r .payload)) → ⊥) × Misplaced l b
 
-  module _ (away : ℕ) (s : BlockState) (u : List ℕ) (its : s .assembled ≡ l) where
-    why-ten : (n : ℕ) → Why c away s u r n → n ≡ 10 → Ten
+  module _ (home away : ℕ) (s : BlockState) (u : List ℕ) (its : s .assembled ≡ l) where
+    why-ten : (n : ℕ) → Why c home away s u r n → n ≡ 10 → Ten
     why-ten n (unagreed m e) z = absurd (⊎-elim (λ (y : m ≡ 4). omega arith) (λ (y : m ≡ 5). omega arith) (refusal-number _ _ _ _ m e))
     why-ten n (badly b reply given e y) z = (and-left _ _ y, b, given, bad-as b (length (r .payload)) (and-right (c .strict) _ y))
     why-ten n (astray b reply given e f y) z = absurd (omega arith)
-    why-ten n (unspliced b reply k m t e) z = absurd (⊎-elim (λ (y : m ≡ 6). omega arith) (λ (y : m ≡ 7). omega arith) (splice-number _ k _ _ _ m e))
+    why-ten n (unspliced b m e) z = absurd (⊎-elim (λ (y : m ≡ 6). omega arith) (λ (y : m ≡ 7). omega arith) (splice-number _ _ _ _ _ m e))
 
-    why-nine : (n : ℕ) → Why c away s u r n → n ≡ 9 → Nine
+    why-nine : (n : ℕ) → Why c home away s u r n → n ≡ 9 → Nine
     why-nine n (unagreed m e) z = absurd (⊎-elim (λ (y : m ≡ 4). omega arith) (λ (y : m ≡ 5). omega arith) (refusal-number _ _ _ _ m e))
     why-nine n (badly b reply given e y) z = absurd (omega arith)
     why-nine n (astray b reply given e f y) z =
         let strict : c .strict ≡ true = and-left _ _ y in
         let well : badForm b (length (r .payload)) ≡ false = rw strict at f in
         (strict, b, given, λ bad. clash-of _ (bad-is b (length (r .payload)) bad) well, rw its at (astray-as (s .assembled) b (and-right (c .strict) _ y)))
-    why-nine n (unspliced b reply k m t e) z = absurd (⊎-elim (λ (y : m ≡ 6). omega arith) (λ (y : m ≡ 7). omega arith) (splice-number _ k _ _ _ m e))
+    why-nine n (unspliced b m e) z = absurd (⊎-elim (λ (y : m ≡ 6). omega arith) (λ (y : m ≡ 7). omega arith) (splice-number _ _ _ _ _ m e))
 
     -- a step that is refused, and not with 8, has its reason
-    reason : (P : Type 0) (n : ℕ) → (n ≡ 8 → ⊥) → ((m : ℕ) → Why c away s u r m → m ≡ n → P) → (g : Left) → Outcome c away s u r g → g .answer ≡ Refused n → P
-    reason P n no8 why = of-refusal c away s u r n (λ g. P) (λ m z k. why m k z) (λ m z y t v k. absurd (no8 y))
+    reason : (P : Type 0) (n : ℕ) → (n ≡ 8 → ⊥) → ((m : ℕ) → Why c home away s u r m → m ≡ n → P) → (g : Left) → Outcome c home away s u r g → g .answer ≡ Refused n → P
+    reason P n no8 why = of-refusal c home away s u r n (λ g. P) (λ m z k. why m k z) (λ m z y t v k. absurd (no8 y))
 
   ten-only : call c w q .answer ≡ Refused 10 → Ten
   ten-only =
       answered (λ (a : Answer). a ≡ Refused 10 → Ten) c w q r asks (λ n h e. let z : n ≡ 10 = same-number n 10 e in absurd (omega arith))
-      (λ away u g o. reason away _ u refl Ten 10 (λ e. omega arith) (why-ten away _ u refl) g o)
+      (λ home away u g o. reason home away _ u refl Ten 10 (λ e. omega arith) (why-ten home away _ u refl) g o)
 
   nine-only : call c w q .answer ≡ Refused 9 → Nine
   nine-only =
       answered (λ (a : Answer). a ≡ Refused 9 → Nine) c w q r asks (λ n h e. let z : n ≡ 9 = same-number n 9 e in absurd (omega arith))
-      (λ away u g o. reason away _ u refl Nine 9 (λ e. omega arith) (why-nine away _ u refl) g o)
+      (λ home away u g o. reason home away _ u refl Nine 9 (λ e. omega arith) (why-nine home away _ u refl) g o)
 
 -- ---- all else is as in plain mode
 

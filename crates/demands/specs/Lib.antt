@@ -13,3 +13,4 @@ pub mod Agreed
 pub mod Pages
 pub mod Given
 pub mod Refusals
+pub mod Uploads
