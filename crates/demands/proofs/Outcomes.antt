@@ -162,19 +162,19 @@ storing-assembled c s d r g (as-before a no-first) = refl
 storing-assembled c s d r g (stores t a first same cached room) = same
 
 -- a call is refused by the first three checks, with nothing changed, or has its place
-pub early-or-placed : (P : Done → Type 0) (c : Config) (w : World) (q : Call) → ((n : ℕ) → n ≤ 3 → P (done w (Refused n)))
+pub early-or-placed : (P : Done → Type 0) (c : Config) (w : World) (q : Call) → ((n : ℕ) → (1 ≤ n) × (n ≤ 3) → P (done w (Refused n)))
     → (withinLimits c w q ≡ true → w .table .clock ≤ q .time → place (q .key) (rowOf c w q) < 16
     → P (callAt c w (q .time) (rowOf c w q) (place (q .key) (rowOf c w q)) (opened (q .key) (rowOf c w q)) (q .what)))
     → P (call c w q)
 unfolding call
 early-or-placed P c w q early placed =
-    on-test P (not (withinLimits c w q)) (λ _. early 1 (omega arith))
-    (λ ok. on-test P (ltb (q .time) (w .table .clock)) (λ _. early 2 (omega arith))
-    (λ time. on-test P (leb 16 (place (q .key) (rowOf c w q))) (λ _. early 3 (omega arith))
+    on-test P (not (withinLimits c w q)) (λ _. early 1 (omega arith, omega arith))
+    (λ ok. on-test P (ltb (q .time) (w .table .clock)) (λ _. early 2 (omega arith, omega arith))
+    (λ time. on-test P (leb 16 (place (q .key) (rowOf c w q))) (λ _. early 3 (omega arith, omega arith))
     (λ room. placed (not-false (withinLimits c w q) ok) (ltb-false (q .time) (w .table .clock) time) (leb-false 16 (place (q .key) (rowOf c w q)) room))))
 
 -- so a request's answer is an early refusal, or that of an outcome on its key's state
-pub answered : (P : Answer → Type 0) (c : Config) (w : World) (q : Call) (r : Request) → q .what ≡ request r → ((n : ℕ) → n ≤ 3 → P (Refused n))
+pub answered : (P : Answer → Type 0) (c : Config) (w : World) (q : Call) (r : Request) → q .what ≡ request r → ((n : ℕ) → (1 ≤ n) × (n ≤ 3) → P (Refused n))
     → ((home away : ℕ) (u : List ℕ) (g : Left) → Outcome c home away (opened (q .key) (rowOf c w q) .state) u r g → P (g .answer)) → P (call c w q .answer)
 unfolding callAt
 answered P c w q r e early step =

@@ -148,10 +148,11 @@ module _ (c : Config) (w : World) (q : Call) where
   step-number (request r) n = request-number c (i * c .upload) (i * c .response) s u r _ (outcome c (i * c .upload) (i * c .response) s u r) n
   step-number (response r) n = response-number c s (pieceOf (c .response) i (w .response)) r n
 
-  ten-at-most : (n : ℕ) → call c w q .answer ≡ Refused n → n ≤ 10
+  ten-at-most : (n : ℕ) → call c w q .answer ≡ Refused n → (1 ≤ n) × (n ≤ 10)
   ten-at-most n =
-      early-or-placed (λ (d : Done). d .answer ≡ Refused n → n ≤ 10) c w q (λ m h e. let z : m ≡ n = same-number m n e in omega arith)
-      (λ ok later i16 e. step-number (q .what) n e .1)
+      early-or-placed (λ (d : Done). d .answer ≡ Refused n → (1 ≤ n) × (n ≤ 10)) c w q
+      (λ m h e. let z : m ≡ n = same-number m n e in (omega (arith, h .0), omega (arith, h .1)))
+      (λ ok later i16 e. let k = step-number (q .what) n e in (omega (arith, k .0), k .1))
 
   leaves-all : (n : ℕ) → call c w q .answer ≡ Refused n → n ≤ 3 → call c w q .world ≡ w
   leaves-all n =
@@ -161,7 +162,7 @@ module _ (c : Config) (w : World) (q : Call) where
   module _ (sixteen : length (w .table .entries) ≡ 16) (n : ℕ) (e : call c w q .answer ≡ Refused n) (late : 4 ≤ n) where
     has-place : Placed c w q
     has-place =
-        early-or-placed (λ (d : Done). d .answer ≡ Refused n → Placed c w q) c w q (λ m h e. let z : m ≡ n = same-number m n e in absurd (omega arith))
+        early-or-placed (λ (d : Done). d .answer ≡ Refused n → Placed c w q) c w q (λ m h e. let z : m ≡ n = same-number m n e in absurd (omega (arith, h .1)))
         (λ ok later i16 e. record { limits = ok; sixteen = sixteen; clock = later; place = i16 }) e
 
     of-request : (r : Request) → q .what ≡ request r → (n ≡ 8 → ⊥) → call c w q .world ≡ touched c w q

@@ -210,12 +210,12 @@ module _ (c : Config) (w : World) (q : Call) (r : Request) (asks : q .what ≡ r
 
   ten-only : call c w q .answer ≡ Refused 10 → Ten
   ten-only =
-      answered (λ (a : Answer). a ≡ Refused 10 → Ten) c w q r asks (λ n h e. let z : n ≡ 10 = same-number n 10 e in absurd (omega arith))
+      answered (λ (a : Answer). a ≡ Refused 10 → Ten) c w q r asks (λ n h e. let z : n ≡ 10 = same-number n 10 e in absurd (omega (arith, h .1)))
       (λ home away u g o. reason home away _ u refl Ten 10 (λ e. omega arith) (why-ten home away _ u refl) g o)
 
   nine-only : call c w q .answer ≡ Refused 9 → Nine
   nine-only =
-      answered (λ (a : Answer). a ≡ Refused 9 → Nine) c w q r asks (λ n h e. let z : n ≡ 9 = same-number n 9 e in absurd (omega arith))
+      answered (λ (a : Answer). a ≡ Refused 9 → Nine) c w q r asks (λ n h e. let z : n ≡ 9 = same-number n 9 e in absurd (omega (arith, h .1)))
       (λ home away u g o. reason home away _ u refl Nine 9 (λ e. omega arith) (why-nine home away _ u refl) g o)
 
 -- ---- all else is as in plain mode

@@ -1,4 +1,5 @@
--- EVERY PAIRING, IN THE CALLS. What a call negotiates (Pairing.antt says what comes out, for all sizes) is what it answers: its refusals 4 and 5, and its block values.
+-- EVERY PAIRING, IN THE CALLS. Pairing.antt says what a negotiation gives, for all sizes. Here: a refusal that a call's negotiation gives is what the call answers; and a block
+-- value, if a request is answered Block1 or a response Block2, is the one negotiated.
 use Prim.Native.Nat.{ℕ}
 use mathlib.Core.Bool.{false}
 use mathlib.Core.Path.{_≡_}

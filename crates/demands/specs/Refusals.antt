@@ -12,7 +12,7 @@ use Rattle.demands.specs.Touch.{touched}
 
 pub record RefusalsLeave (h : Handler) : Type 0 where
   -- There are ten.
-  pub ten : (c : Config) (w : World) (q : Call) (n : ℕ) → h c w q .answer ≡ Refused n → n ≤ 10
+  pub ten : (c : Config) (w : World) (q : Call) (n : ℕ) → h c w q .answer ≡ Refused n → (1 ≤ n) × (n ≤ 10)
   -- 1, 2 and 3 leave everything.
   pub everything : (c : Config) (w : World) (q : Call) (n : ℕ) → h c w q .answer ≡ Refused n → n ≤ 3 → h c w q .world ≡ w
   -- 4, 5, 6, 7, 9 and 10 leave all but the touch .. (That a table has sixteen entries is given by its type.)

@@ -17,8 +17,8 @@ pub record Placed (c : Config) (w : World) (q : Call) : Type 0 where
   pub clock : w .table .clock ≤ q .time
   pub place : place (q .key) (rowOf c w q) < 16
 
--- Document 01: ""Touch" means: expired entries freed, clock recorded, entry present and touched." The entry's state is as it was, or a new one's; both
--- memories are as they were.
+-- Document 01: ""Touch" means: expired entries freed, clock recorded, entry present and touched." The entry's state is as it was, or a new one's (a key that had none
+-- has an entry then); both memories are as they were.
 abbrev pub touched : Config → World → Call → World
 touched c w q =
     record {

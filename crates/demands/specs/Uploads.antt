@@ -1,6 +1,7 @@
 -- IN STRICT MODE, WHAT IS HANDED ON IS WHAT WAS TAKEN. In any run from a fresh table, whatever calls stand in it, on any keys and in any order: where a request is answered
--- Handed, the body that is shown is the payloads of the blocks that were taken for that key from its last block 0 on, one after another, this one's last. Nothing else
--- can be in it: no byte of a cancelled push, of another key, or of nobody.
+-- Handed, the body that is shown is the payloads of the blocks that were taken for that key from the last block 0 that was taken on, one after another, this one's last.
+-- Nothing else can be in it: no byte of another key, of an earlier body, or of nobody. (Two pushes on one key cannot be told apart but by a block 0: where the second's is
+-- lost, its block 1 may follow the first's.)
 use Prim.Native.Nat.{ℕ}
 use mathlib.Core.Bool.{true, cond}
 use mathlib.Core.Path.{_≡_}
@@ -33,7 +34,7 @@ takenBy (response r) a old = old
 abbrev pub takenOn : List ℕ → List ℕ → Call → Answer → List ℕ
 takenOn k old q a = cond (same k (q .key)) (takenBy (q .what) a old) old
 
--- What was taken for key k in these calls, each from what the call before it left, from the last block 0 on.
+-- What was taken for key k in these calls, each from what the call before it left, from the last block 0 that was taken on.
 abbrev pub allTaken : Handler → Config → World → List ℕ → List ℕ → List Call → List ℕ
 allTaken h c w k old [] = old
 allTaken h c w k old (q ∷ calls) = allTaken h c (h c w q .world) k (takenOn k old q (h c w q .answer)) calls
