@@ -10,34 +10,13 @@ use borrow.Author.Needs.{needs}
 use Rattle.request_block1.proofs.handle_request_block1.Statement.{statement}
 use Rattle.request_block1.proofs.handle_request_block1.Tie as tie
 
-bad-form-requires : tie.Need-bad-form-requires
-bad-form-requires c κs = search needs
-
-refused-requires : tie.Need-refused-requires
-refused-requires c κs = search needs
-
 returns : tie.Need-returns
 returns c = returned _ _ _ _ (c .refused .ensures) ∙ sym (given-bad _ _ _ _ _ _ _ _ _ (rw (c .before .before .before .bad-form .ensures) at (c .before .if1 .taken)))
-
-not-next-requires : tie.Need-not-next-requires
-not-next-requires c κs = search needs
-
-refused-requires-2 : tie.Need-refused-requires-2
-refused-requires-2 c κs = search needs
 
 returns-2 : tie.Need-returns-2
 returns-2 c =
     returned _ _ _ _ (c .refused2 .ensures)
     ∙ sym (given-not-next _ _ _ _ _ _ _ _ _ (rw (c .before .before .before .before .before .before .bad-form .ensures) at (c .before .before .before .before .if1 .left)) (rw (c .before .before .before .not-next .ensures) at (c .before .if2 .taken)))
-
-length-met-requires : tie.Need-length-met-requires
-length-met-requires c κs = search needs
-
-splice-block-requires : tie.Need-splice-block-requires
-splice-block-requires c κs = search needs
-
-same-length : tie.Need-same-length
-same-length c = search needs
 
 returns-3 : tie.Need-returns-3
 returns-3 c =
@@ -51,13 +30,13 @@ pub handle-request-block1-spec : {M : Type 1} → statement M
 handle-request-block1-spec =
     tie.close
     (tie.spec
-    bad-form-requires
-    refused-requires
+    (λ c κs. search needs)
+    (λ c κs. search needs)
     returns
-    not-next-requires
-    refused-requires-2
+    (λ c κs. search needs)
+    (λ c κs. search needs)
     returns-2
-    length-met-requires
-    splice-block-requires
-    same-length
+    (λ c κs. search needs)
+    (λ c κs. search needs)
+    (λ c. search needs)
     returns-3)

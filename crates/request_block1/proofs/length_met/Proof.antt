@@ -9,12 +9,9 @@ returns : tie.Need-returns
 unfolding lengthMet
 returns c = rw (c .if1 .taken) (refl, omega arith)
 
-wide32-requires : tie.Need-wide32-requires
-wide32-requires c κs = search needs
-
 returns-2 : tie.Need-returns-2
 unfolding lengthMet
 returns-2 c = rw (c .before .if1 .left) (c .wide32 .ensures .0, omega arith)
 
 pub length-met-spec : {M : Type 1} → statement M
-length-met-spec = tie.close (tie.spec returns wide32-requires returns-2)
+length-met-spec = tie.close (tie.spec returns (λ c κs. search needs) returns-2)

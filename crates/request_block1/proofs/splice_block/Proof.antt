@@ -25,32 +25,11 @@ module _ (c : tie.After-extending-splice) where
       → c .extending-splice .last .0 ≡ leftBy x (c .before .before .before .before .before .before .args .piece .now) (c .before .before .before .before .before .before .args .len) (blockStart (c .before .before .before .before .before .before .args .block)) (blockSize (c .before .before .before .before .before .before .args .block)) (c .before .before .before .before .before .before .args .payload .now)
   leaves x e = rw (e, c .before .before .before .start .ensures .0, c .before .before .size .ensures) at (c .extending-splice .ensures .1)
 
-start-requires : tie.Need-start-requires
-start-requires c κs = search needs
-
-size-requires : tie.Need-size-requires
-size-requires c κs = search needs
-
-extending-splice-requires : tie.Need-extending-splice-requires
-extending-splice-requires c κs = search needs
-
-enum-known-n : tie.Need-enum-known-n
-enum-known-n c = search needs
-
-refused-requires : tie.Need-refused-requires
-refused-requires c κs = search needs
-
-enum-known-n-2 : tie.Need-enum-known-n-2
-enum-known-n-2 c = search needs
-
 take-body-requires : tie.Need-take-body-requires
 take-body-requires c κs =
     let d = c .before .before .before .before .before in
     let n = taken-is _ _ _ _ _ _ (answer d ∙ c .before .n2 .given .1) in
     (d .before .before .before .before .before .before .pre .0, d .before .before .before .before .before .before .pre .1, omega arith)
-
-same-length : tie.Need-same-length
-same-length c = search needs
 
 returns : tie.Need-returns
 returns c =
@@ -59,9 +38,6 @@ returns c =
     let told = c .before .before .n .given .1 in
     returned _ _ _ _ (c .refused .ensures) ∙ ap (λ (u : List ℕ). left (a .state) u (Refused (c .before .before .n .given .0 .0))) (leaves d _ told)
     ∙ sym (spliced-refused _ _ _ _ _ _ _ _ _ _ _ (answer d ∙ told))
-
-same-length-2 : tie.Need-same-length-2
-same-length-2 c = search needs
 
 returns-2 : tie.Need-returns-2
 returns-2 c =
@@ -75,14 +51,14 @@ pub splice-block-spec : {M : Type 1} → statement M
 splice-block-spec =
     tie.close
     (tie.spec
-    start-requires
-    size-requires
-    extending-splice-requires
-    enum-known-n
-    refused-requires
-    enum-known-n-2
+    (λ c κs. search needs)
+    (λ c κs. search needs)
+    (λ c κs. search needs)
+    (λ c. search needs)
+    (λ c κs. search needs)
+    (λ c. search needs)
     take-body-requires
-    same-length
+    (λ c. search needs)
     returns
-    same-length-2
+    (λ c. search needs)
     returns-2)

@@ -16,41 +16,11 @@ asked c = sym (c .chunk-of .ensures ∙ ap (chunkOf (c .before .before .before .
 within : (c : tie.After-wide8) → (c .before .before .before .before .reply .given .0 .1 .0 ≤ c .before .before .before .before .before .before .before .wide32 .result) × (c .before .before .before .before .reply .given .0 .1 .1 .0 ≤ c .before .before .before .before .before .before .before .wide32 .result)
 within c = chunk-within _ _ _ _ _ (sym (c .before .before .before .before .before .before .chunk-of .ensures) ∙ c .before .before .before .before .reply .given .1)
 
-wide32-requires : tie.Need-wide32-requires
-wide32-requires c κs = search needs
-
-chunk-of-requires : tie.Need-chunk-of-requires
-chunk-of-requires c κs = search needs
-
-enum-known-n : tie.Need-enum-known-n
-enum-known-n c = search needs
-
-refused-requires : tie.Need-refused-requires
-refused-requires c κs = search needs
-
-enum-known-reply : tie.Need-enum-known-reply
-enum-known-reply c = search needs
-
-kept-while-requires : tie.Need-kept-while-requires
-kept-while-requires c κs = search needs
-
-with-cached-requires : tie.Need-with-cached-requires
-with-cached-requires c κs = search needs
-
-wide8-requires : tie.Need-wide8-requires
-wide8-requires c κs = search needs
-
-add-start : tie.Need-add-start
-add-start c = search needs
-
 add-t18 : tie.Need-add-t18
 add-t18 c = omega (arith, within c)
 
 add-t19 : tie.Need-add-t19
 add-t19 c = omega (arith, within c)
-
-answered-requires : tie.Need-answered-requires
-answered-requires c κs = search needs
 
 returns : tie.Need-returns
 returns c = λ u. returned _ _ u _ (c .refused .ensures) ∙ sym (served-refused _ _ u _ _ _ (asked (c .before .before .before .before) ∙ c .before .before .n .given .1))
@@ -64,17 +34,17 @@ pub serve-cached-response-spec : {M : Type 1} → statement M
 serve-cached-response-spec =
     tie.close
     (tie.spec
-    wide32-requires
-    chunk-of-requires
-    enum-known-n
-    refused-requires
-    enum-known-reply
-    kept-while-requires
-    with-cached-requires
-    wide8-requires
-    add-start
+    (λ c κs. search needs)
+    (λ c κs. search needs)
+    (λ c. search needs)
+    (λ c κs. search needs)
+    (λ c. search needs)
+    (λ c κs. search needs)
+    (λ c κs. search needs)
+    (λ c κs. search needs)
+    (λ c. search needs)
     add-t18
     add-t19
-    answered-requires
+    (λ c κs. search needs)
     returns
     returns-2)

@@ -10,15 +10,6 @@ use borrow.Author.Needs.{needs}
 use Rattle.response_step.proofs.cache_in.Statement.{statement}
 use Rattle.response_step.proofs.cache_in.Tie as tie
 
-copy-in-requires : tie.Need-copy-in-requires
-copy-in-requires c κs = search needs
-
-copy-in-requires-2 : tie.Need-copy-in-requires-2
-copy-in-requires-2 c κs = search needs
-
-same-length : tie.Need-same-length
-same-length c = search needs
-
 returns : tie.Need-returns
 returns c =
     let s = c .before .before .before .before .before .before .before .before .before .before .before in
@@ -29,4 +20,4 @@ returns c =
     ∙ ap (λ (i : ℕ). patch (patch (s .args .piece .now) 0 h) i p) start ∙ patch-after _ 0 h p (omega arith)
 
 pub cache-in-spec : {M : Type 1} → statement M
-cache-in-spec = tie.close (tie.spec copy-in-requires copy-in-requires-2 same-length returns)
+cache-in-spec = tie.close (tie.spec (λ c κs. search needs) (λ c κs. search needs) (λ c. search needs) returns)

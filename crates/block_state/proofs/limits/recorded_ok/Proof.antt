@@ -1,6 +1,6 @@
 use Rattle.block_state.specs.State.{recordedOk}
-use Rattle.limits.proofs.recorded_ok.Statement.{statement}
-use Rattle.limits.proofs.recorded_ok.Tie as tie
+use Rattle.block_state.proofs.limits.recorded_ok.Statement.{statement}
+use Rattle.block_state.proofs.limits.recorded_ok.Tie as tie
 
 returns : tie.Need-returns
 unfolding recordedOk

@@ -1,29 +1,16 @@
-// The limits of one key's state, which a lent table may be off, and the Rust's default configuration.
-use block_state::Assembled;
-use block_state::BlockState;
-use block_state::Cached;
-use block_state::Config;
-use block_state::Recorded;
+// The limits of one key's state, which a lent table may be off.
+use crate::Assembled;
+use crate::BlockState;
+use crate::Cached;
+use crate::Recorded;
+use config::Config;
 ghost use mathlib.Core.Path.{_≡_};
-ghost use Prim.Native.Nat.{_^_, _<_};
 ghost use Rattle.block_state.specs.State.{assembledOk, cachedOk, recordedOk, stateOk, isNothing};
-
-fn wide8(x: u8) -> usize
-    ensures { λ r. ⌜ (r ≡ x) × (r < 256) ⌝ }
-{
-    x as usize
-}
-
-fn wide32(x: u32) -> usize
-    ensures { λ r. ⌜ (r ≡ x) × (r < 2 ^ 32) ⌝ }
-{
-    x as usize
-}
 
 fn assembled_ok(config: Config, assembled: Assembled) -> bool
     ensures { λ r. ⌜ r ≡ assembledOk config assembled ⌝ }
 {
-    (wide32(assembled.len) <= config.upload)
+    (wide::usize_of_u32(assembled.len) <= config.upload)
         & (assembled.exponent <= 7)
         & ((assembled.len != 0) | (assembled.exponent == 0))
 }
@@ -33,7 +20,8 @@ fn cached_ok(config: Config, cached: Cached) -> bool
 {
     if cached.held {
         return (cached.head <= 128)
-            & (wide8(cached.head) + wide32(cached.payload) <= config.response);
+            & (wide::usize_of_u8(cached.head) + wide::usize_of_u32(cached.payload)
+                <= config.response);
     }
     (cached.head == 0) & (cached.payload == 0)
 }
@@ -69,23 +57,4 @@ pub fn is_nothing(state: BlockState) -> bool
         & (state.recorded.num == 0)
         & !state.recorded.more
         & (state.recorded.exponent == 0)
-}
-
-// Default taken from RFC 7252.
-const DEFAULT_MAX_TOTAL_MESSAGE_SIZE: usize = 1152;
-
-// Two minutes, in milliseconds.
-const DEFAULT_CACHE_EXPIRY_DURATION: u64 = 120000;
-
-// The Rust's defaults, for pieces of these sizes.
-pub fn default_config(strict: bool, upload: usize, response: usize) -> Config
-    ensures { λ r. ⌜ r ≡ record { strict = strict; limit = 1152; lifetime = 120000; upload = upload; response = response } ⌝ }
-{
-    Config {
-        strict,
-        limit: DEFAULT_MAX_TOTAL_MESSAGE_SIZE,
-        lifetime: DEFAULT_CACHE_EXPIRY_DURATION,
-        upload,
-        response,
-    }
 }

@@ -1,7 +1,7 @@
 use Rattle.block_state.specs.State.{isNothing}
 use borrow.Author.Needs.{needs}
-use Rattle.limits.proofs.is_nothing.Statement.{statement}
-use Rattle.limits.proofs.is_nothing.Tie as tie
+use Rattle.block_state.proofs.limits.is_nothing.Statement.{statement}
+use Rattle.block_state.proofs.limits.is_nothing.Tie as tie
 
 returns : tie.Need-returns
 unfolding isNothing
