@@ -7,15 +7,22 @@ use Rattle.response_step.proofs.cache_response.Statement.{statement}
 use Rattle.response_step.proofs.cache_response.Tie as tie
 
 returns : tie.Need-returns
-returns c = returned _ _ _ _ (c .refused .ensures) ∙ sym (chunked-small _ _ _ _ _ _ _ _ _ refl (c .before .before .before .before .before .pre .3) (omega arith))
+returns c =
+    let start = c .before .before .before .before .before in
+    returned _ _ _ _ (c .refused .ensures) ∙ sym (chunked-small _ _ _ _ _ _ _ _ _ refl (start .pre .3) (omega arith))
 
 returns-2 : tie.Need-returns-2
-returns-2 c = returned _ _ _ _ (c .refused2 .ensures) ∙ sym (chunked-small _ _ _ _ _ _ _ _ _ refl (c .before .before .before .before .before .before .pre .3) (omega arith))
+returns-2 c =
+    let start = c .before .before .before .before .before .before in
+    returned _ _ _ _ (c .refused2 .ensures) ∙ sym (chunked-small _ _ _ _ _ _ _ _ _ refl (start .pre .3) (omega arith))
 
 returns-3 : tie.Need-returns-3
 returns-3 c =
-    rw (c .answered .ensures, c .before .caching-state .ensures, c .before .before .before .before .cache-in .ensures)
-    (sym (chunked-first _ _ _ _ _ _ _ _ _ refl (c .before .before .before .before .before .before .before .before .before .before .before .pre .3) (omega arith)))
+    let stored = c .before in
+    let copied = stored .before .before .before in
+    let start = copied .before .before .before .before .before .before .before in
+    rw (c .answered .ensures, stored .caching-state .ensures, copied .cache-in .ensures)
+    (sym (chunked-first _ _ _ _ _ _ _ _ _ refl (start .pre .3) (omega arith)))
 
 pub cache-response-spec : {M : Type 1} → statement M
 cache-response-spec =
