@@ -1,4 +1,5 @@
 pub mod Row
+pub mod Changed
 pub mod TableFits
 pub mod Turns
 pub mod Quick

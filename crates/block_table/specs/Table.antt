@@ -2,7 +2,7 @@
 use Prim.Native.Nat.{ℕ}
 use mathlib.Core.Bool.{Bool, true, not, _&&_}
 use mathlib.Core.List.{List, [], _∷_, map}
-use lib.ListN.{getD, replicate}
+use lib.ListN.{getD, set, replicate}
 use Rattle.block_state.specs.declared.Config.{Config}
 use Rattle.entries.specs.declared.Entry.{Entry}
 use Rattle.block_table.specs.declared.Table.{Table}
@@ -26,6 +26,16 @@ sweep lifetime time l = map (swept lifetime time) l
 abbrev pub at : List Entry → ℕ → Entry
 at l i = getD l i free
 
+-- ---- A table
+
+-- The table with this clock and this row: every table is made here.
+abbrev pub tableOf : ℕ → List Entry → Table
+tableOf clock row = record { clock = clock; entries = row }
+
+-- A changed table: this clock, and this row with one entry put in its place.
+abbrev pub tableWith : ℕ → List Entry → ℕ → Entry → Table
+tableWith clock row i e = tableOf clock (set row i e)
+
 -- "A fresh table is empty with clock 0."
 abbrev pub freshTable : Table
-freshTable = record { clock = 0; entries = replicate 16 free }
+freshTable = tableOf 0 (replicate 16 free)

@@ -1,8 +1,8 @@
 // The table of sixteen entries and its clock: whether no two have one key, expiry, and an entry put in its place.
 use entries::Entry;
 ghost use mathlib.Core.Path.{_≡_};
-ghost use lib.ListN.{length, drop, set};
-ghost use Rattle.block_table.specs.Table.{distinct, sweep, freshTable};
+ghost use lib.ListN.{length, drop};
+ghost use Rattle.block_table.specs.Table.{distinct, sweep, tableWith, freshTable};
 ghost use Rattle.block_table.specs.Quick.{alone};
 
 #[repr(C)]
@@ -62,7 +62,7 @@ pub fn sweep_row(entries: [Entry; 16], lifetime: u64, time: u64) -> [Entry; 16]
 
 // The row with this entry at i, and the clock recorded. An i of 16 or more changes no entry.
 pub fn put_entry(entries: [Entry; 16], clock: u64, i: usize, e: Entry) -> Table
-    ensures { λ r. ⌜ r ≡ record { clock = clock; entries = set entries i e } ⌝ }
+    ensures { λ r. ⌜ r ≡ tableWith clock entries i e ⌝ }
 {
     let mut row = entries;
     if i < 16 {

@@ -2,11 +2,11 @@
 use Prim.Native.Nat.{ℕ, _<_}
 use mathlib.Core.Bool.{Bool, true, false, not, _&&_}
 use mathlib.Core.Path.{_≡_, sym}
-use lib.ListN.{set}
 use lib.Dec.{T as Holds, ltb}
 use borrow.Author.Tests.{not-true, ltb-true}
 use Rattle.pieces.proofs.Tests.{ands}
 use Rattle.block_table.specs.declared.Table.{Table}
+use Rattle.block_table.specs.Table.{tableWith}
 use Rattle.block_handler.specs.declared.Change.{Change}
 use Rattle.block_handler.specs.Contract.{changed}
 
@@ -16,5 +16,5 @@ module _ (g : Change) where
       let both : (not (g .freed) && ltb (g .at) 16) ≡ true = sym e in
       (not-true (g .freed) (search ands), ltb-true (g .at) 16 (search ands))
 
-  pub one-changed : (lifetime time : ℕ) (t : Table) → g .freed ≡ false → _≡_ {A = Table} (record { clock = g .clock; entries = set (t .entries) (g .at) (g .entry) }) (changed lifetime time t g)
+  pub one-changed : (lifetime time : ℕ) (t : Table) → g .freed ≡ false → tableWith (g .clock) (t .entries) (g .at) (g .entry) ≡ changed lifetime time t g
   one-changed lifetime time t e = rw e

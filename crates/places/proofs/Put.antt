@@ -4,7 +4,7 @@ use mathlib.Core.Bool.{true}
 use mathlib.Core.Path.{_≡_, refl, sym, _∙_}
 use mathlib.Core.List.{List}
 use native.Mathlib.Omega.{arith}
-use lib.ListN.{length, set, length-set}
+use lib.ListN.{length, length-set}
 use Rattle.block_state.specs.declared.Config.{Config}
 use Rattle.block_state.specs.declared.BlockState.{BlockState}
 use Rattle.pieces.proofs.Tests.{by-cases}
@@ -13,7 +13,7 @@ use Rattle.entries.specs.declared.Entry.{Entry}
 use Rattle.block_table.specs.declared.Table.{Table}
 use Rattle.keys.specs.Keys.{keyOk}
 use Rattle.entries.specs.Entries.{inUse, entryOk}
-use Rattle.block_table.specs.Table.{at}
+use Rattle.block_table.specs.Table.{at, tableWith}
 use Rattle.places.specs.Places.{place, opened}
 use Rattle.keys.proofs.Keys.{same-eq, stored-ok}
 use Rattle.entries.proofs.Entries.{holds-new, EntryFits, entry-fits, fits-entry}
@@ -32,7 +32,7 @@ module _ (c : Config) (t : Table) (time : ℕ) (f : TableFits c t) (sixteen : le
 
   -- the table with that entry touched, and with any state that is within the limits
   pub put-fits : (s : BlockState) → StateFits c s
-      → TableFits c (record { clock = time; entries = set (row c t time) (place k (row c t time)) (inUse (opened k (row c t time) .key) time s) })
+      → TableFits c (tableWith time (row c t time) (place k (row c t time)) (inUse (opened k (row c t time) .key) time s))
   put-fits s g =
       let l : List Entry = row c t time in
       let e : Entry = inUse (opened k l .key) time s in

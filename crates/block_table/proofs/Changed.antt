@@ -1,0 +1,37 @@
+-- Laws of a changed table: its clock, its entries, and that what is put back where it stood changes nothing. Assumes nothing.
+use Prim.Native.Nat.{ℕ, zero, suc, _<_}
+use mathlib.Core.Path.{_≡_, refl, ap}
+use mathlib.Core.Logic.{_≢_}
+use mathlib.Core.List.{List, [], _∷_}
+use lib.ListN.{length, set, length-set}
+use lib.Seq.{getD-set-same, getD-set-other}
+use Rattle.entries.specs.declared.Entry.{Entry}
+use Rattle.entries.specs.Entries.{free}
+use Rattle.block_table.specs.declared.Table.{Table}
+use Rattle.block_table.specs.Table.{at, tableOf, tableWith}
+
+module _ (clock : ℕ) (row : List Entry) (i : ℕ) (e : Entry) where
+  pub with-clock : tableWith clock row i e .clock ≡ clock
+  with-clock = refl
+
+  pub with-length : length (tableWith clock row i e .entries) ≡ length row
+  with-length = length-set row i e
+
+  pub with-entry : i < length row → at (tableWith clock row i e .entries) i ≡ e
+  with-entry below = getD-set-same row i e free below
+
+  pub with-other : (j : ℕ) → j ≢ i → at (tableWith clock row i e .entries) j ≡ at row j
+  with-other j other = getD-set-other row i j e free other
+
+-- the clock, the row and the entry decide the table
+pub with-same : (clock : ℕ) (row row′ : List Entry) (i : ℕ) (e e′ : Entry) → row ≡ row′ → e ≡ e′ → tableWith clock row i e ≡ tableWith clock row′ i e′
+with-same clock row row′ i e e′ rows entries = λ k. tableWith clock (rows k) i (entries k)
+
+set-own : (l : List Entry) (i : ℕ) → set l i (at l i) ≡ l
+set-own [] i = refl
+set-own (x ∷ l) zero = refl
+set-own (x ∷ l) (suc i) = ap (λ (r : List Entry). x ∷ r) (set-own l i)
+
+-- an entry that is put back where it stood
+pub with-own : (t : Table) (i : ℕ) → tableWith (t .clock) (t .entries) i (at (t .entries) i) ≡ t
+with-own t i = λ k. tableOf (t .clock) (set-own (t .entries) i k)
