@@ -3,7 +3,7 @@ use crate::Change;
 use crate::Outcome;
 use block_state::Answer;
 use block_state::BlockState;
-use block_state::Config;
+use config::Config;
 use block_table::Table;
 use entries::Entry;
 use judge::Verdict;

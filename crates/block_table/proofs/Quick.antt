@@ -12,7 +12,7 @@ use lib.Dec.{eqb}
 use borrow.Author.Tests.{eq-eqb}
 use Rattle.digest.specs.Digest.{times}
 use Rattle.digest.proofs.Counts.{Apart}
-use Rattle.block_state.specs.declared.Config.{Config}
+use Rattle.config.specs.declared.Config.{Config}
 use Rattle.entries.specs.declared.Entry.{Entry}
 use Rattle.keys.specs.Lists.{all}
 use Rattle.entries.specs.Entries.{entryOk, clash}

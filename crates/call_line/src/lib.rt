@@ -1,5 +1,5 @@
 // One line that is a call.
-use block_state::Config;
+use config::Config;
 use block_table::Table;
 use script::Line;
 use script_call::Ran;

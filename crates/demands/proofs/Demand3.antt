@@ -4,7 +4,7 @@ use Prim.Native.Nat.{ℕ}
 use mathlib.Core.Path.{_≡_, sym, _∙_, subst}
 use mathlib.Core.List.{List, [], _∷_, map, append-nil}
 use lib.ListN.{length}
-use Rattle.block_state.specs.declared.Config.{Config}
+use Rattle.config.specs.declared.Config.{Config}
 use Rattle.keys.specs.Keys.{same}
 use Rattle.keys.proofs.Keys.{same-refl}
 use Rattle.block_handler.specs.Call.{World, Call, call}

@@ -7,7 +7,7 @@ use native.Mathlib.Omega.{arith}
 use borrow.Author.Tests.{leb-true}
 use Rattle.pieces.specs.Memory.{pieceOf}
 use Rattle.pieces.proofs.Tests.{ands, by-cases}
-use Rattle.block_state.specs.declared.Config.{Config}
+use Rattle.config.specs.declared.Config.{Config}
 use Rattle.block_state.specs.Message.{Response, What, request, response, WhatBytes}
 use Rattle.keys.specs.Keys.{same, keyOf}
 use Rattle.keys.proofs.Keys.{same-refl, same-eq}

@@ -17,13 +17,13 @@ use Rattle.splicing.proofs.Splicing as splicing
 use Rattle.block_value.specs.Value.{sizeOf}
 use Rattle.negotiation.specs.declared.MaybeBlock.the-variants.{Absent, Given}
 use Rattle.negotiation.specs.declared.Negotiated.the-variants.{Block}
-use Rattle.block_state.specs.declared.Config.{Config}
+use Rattle.config.specs.declared.Config.{Config}
 use Rattle.block_state.specs.declared.BlockState.{BlockState}
 use Rattle.block_state.specs.declared.Answer.the-variants.{Continue, Handed}
 use Rattle.block_state.specs.Message.{Request}
 use Rattle.block_state.specs.State.{assembly, withAssembled, withRecorded}
 use Rattle.block_state.specs.Step.{Left, left, bytesFrom}
-use Rattle.request_block1.specs.Block1.{lengthMet, taken}
+use Rattle.request_step.specs.Block1.{lengthMet, taken}
 use Rattle.request_step.specs.Step.{stepRequest}
 use Rattle.request_block2.proofs.Steps.{onward-absent}
 use Rattle.request_block1.proofs.Steps.{taken-more, taken-last, spliced-body, given-next}

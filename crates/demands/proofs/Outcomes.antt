@@ -22,7 +22,7 @@ use Rattle.negotiation.specs.declared.Negotiated.{Negotiated}
 use Rattle.negotiation.specs.declared.Negotiated.the-variants as agreed
 use Rattle.negotiation.specs.declared.Chunk.{Chunk}
 use Rattle.negotiation.specs.declared.Chunk.the-variants as chunk
-use Rattle.block_state.specs.declared.Config.{Config}
+use Rattle.config.specs.declared.Config.{Config}
 use Rattle.block_state.specs.declared.Assembled.{Assembled}
 use Rattle.block_state.specs.declared.Cached.{Cached}
 use Rattle.block_state.specs.declared.BlockState.{BlockState}
@@ -31,8 +31,8 @@ use Rattle.block_state.specs.declared.Answer.the-variants.{Continue, TooLarge, 
 use Rattle.block_state.specs.Message.{Request, Response, request}
 use Rattle.block_state.specs.State.{assembly, keptWhile, caching, recordedBlock, withRecorded}
 use Rattle.block_state.specs.Step.{Left, left, bytesFrom}
-use Rattle.request_block2.specs.Block2 as block2
-use Rattle.request_block1.specs.Block1.{taken, onSplice, block1Given, badForm, notNext, lengthMet}
+use Rattle.request_step.specs.Block2 as block2
+use Rattle.request_step.specs.Block1.{taken, onSplice, block1Given, badForm, notNext, lengthMet}
 use Rattle.request_step.specs.Step.{onNegotiated, stepRequest}
 use Rattle.response_step.specs.Step.{chunked, onReply, stepResponse}
 use Rattle.places.specs.Places.{place, opened}

@@ -7,7 +7,7 @@ use native.Mathlib.Omega.{arith}
 use lib.ListN.{length}
 use borrow.Author.Tests.{eqb-true}
 use Rattle.pieces.proofs.Tests.{ands, by-cases}
-use Rattle.block_state.specs.declared.Config.{Config}
+use Rattle.config.specs.declared.Config.{Config}
 use Rattle.block_state.specs.Message.{What, request, response}
 use Rattle.keys.specs.Keys.{same}
 use Rattle.keys.proofs.Keys.{same-refl}

@@ -19,14 +19,14 @@ use Rattle.negotiation.specs.declared.Negotiated.{Negotiated}
 use Rattle.negotiation.specs.declared.Chunk.{Chunk}
 use Rattle.negotiation.specs.declared.Chunk.the-variants as chunk
 use Rattle.negotiation.specs.declared.Negotiated.the-variants as agreed
-use Rattle.block_state.specs.declared.Config.{Config}
+use Rattle.config.specs.declared.Config.{Config}
 use Rattle.block_state.specs.declared.Assembled.{Assembled}
 use Rattle.block_state.specs.declared.BlockState.{BlockState}
 use Rattle.block_state.specs.declared.Answer.{Answer}
 use Rattle.block_state.specs.declared.Answer.the-variants.{Plain, Refused}
 use Rattle.block_state.specs.Message.{Request, Response, request, response}
 use Rattle.block_state.specs.Step.{Left, left}
-use Rattle.request_block1.specs.Block1.{badForm, notNext, lengthMet, block1Given}
+use Rattle.request_step.specs.Block1.{badForm, notNext, lengthMet, block1Given}
 use Rattle.request_block1.proofs.Steps.{given-bad, given-not-next, given-next}
 use Rattle.request_step.specs.Step.{onNegotiated, stepRequest}
 use Rattle.request_step.proofs.Steps.{request-given}

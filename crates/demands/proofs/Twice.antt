@@ -17,13 +17,13 @@ use Rattle.splicing.proofs.Splicing as splicing
 use Rattle.block_value.specs.Value.{sizeOf}
 use Rattle.block_value.proofs.Laws.{size-least}
 use Rattle.negotiation.specs.declared.MaybeBlock.the-variants.{Absent, Given}
-use Rattle.block_state.specs.declared.Config.{Config}
+use Rattle.config.specs.declared.Config.{Config}
 use Rattle.block_state.specs.declared.BlockState.{BlockState}
 use Rattle.block_state.specs.declared.Answer.the-variants.{Handed, Refused}
 use Rattle.block_state.specs.Message.{Request, request, WhatBytes}
 use Rattle.block_state.specs.State.{assembly, withAssembled, withRecorded}
 use Rattle.block_state.specs.Step.{left, bytesFrom}
-use Rattle.request_block1.specs.Block1.{notNext, lengthMet, onSplice}
+use Rattle.request_step.specs.Block1.{notNext, lengthMet, onSplice}
 use Rattle.request_block1.proofs.Steps.{taken-last, spliced-body, spliced-refused, given-next, given-not-next}
 use Rattle.request_block2.proofs.Steps.{onward-absent}
 use Rattle.request_step.specs.Step.{stepRequest}

@@ -20,7 +20,7 @@ use Rattle.block_value.specs.Value.{blockSize, blockStart}
 use Rattle.block_value.specs.declared.BlockValue.{BlockValue}
 use Rattle.block_value.proofs.Laws.{size-least}
 use Rattle.negotiation.specs.declared.MaybeBlock.the-variants.{Given}
-use Rattle.block_state.specs.declared.Config.{Config}
+use Rattle.config.specs.declared.Config.{Config}
 use Rattle.block_state.specs.declared.Assembled.{Assembled}
 use Rattle.block_state.specs.declared.BlockState.{BlockState}
 use Rattle.block_state.specs.declared.Part.{Part}
@@ -30,7 +30,7 @@ use Rattle.block_state.specs.Message.{Request, What, request, response, OptionB
 use Rattle.block_state.specs.State.{assembledOk}
 use Rattle.block_state.proofs.Fits.{StateFits}
 use Rattle.block_state.specs.Step.{Left, bytesFrom}
-use Rattle.request_block1.specs.Block1.{notNext, lengthMet}
+use Rattle.request_step.specs.Block1.{notNext, lengthMet}
 use Rattle.request_step.specs.Step.{stepRequest}
 use Rattle.request_step.proofs.StepKeeps.{request-keeps}
 use Rattle.keys.specs.Keys.{same}

@@ -5,7 +5,7 @@ use mathlib.Core.Bool.{true, false, _&&_, and-false}
 use Prim.Native.Nat.{ℕ}
 use lib.Dec.{leb}
 use Rattle.digest.specs.Digest.{digestOf, folded}
-use Rattle.block_state.specs.declared.Config.{Config}
+use Rattle.config.specs.declared.Config.{Config}
 use Rattle.block_state.specs.State.{stateOk}
 use Rattle.entries.specs.declared.Entry.{Entry}
 use Rattle.keys.specs.Keys.{same, keyOf, storedOk}

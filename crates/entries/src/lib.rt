@@ -1,8 +1,9 @@
 // One entry of the table: its limits, expiry, and how a key's entry starts.
 use block_state::Assembled;
 use block_state::BlockState;
+use block_state::limits;
 use block_state::Cached;
-use block_state::Config;
+use config::Config;
 use block_state::Recorded;
 use keys::Key;
 ghost use mathlib.Core.Path.{_≡_};

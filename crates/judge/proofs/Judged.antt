@@ -8,7 +8,7 @@ use lib.ListN.{length}
 use lib.Dec.{leb, ltb}
 use borrow.Author.Tests.{ltb-false, leb-true, leb-false, eqb-true, eq-eqb, ne-eqb, lt-ltb, le-ltb, le-leb, lt-leb}
 use Rattle.pieces.proofs.Memory.{piece-order}
-use Rattle.block_state.specs.declared.Config.{Config}
+use Rattle.config.specs.declared.Config.{Config}
 use Rattle.pieces.proofs.Tests.{ands, and-left, by-cases}
 use Rattle.block_state.proofs.Fits.{assembled-most}
 use Rattle.block_table.specs.declared.Table.{Table}

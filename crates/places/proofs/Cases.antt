@@ -8,7 +8,7 @@ use lib.ListN.{length, getD}
 use lib.Dec.{eqb}
 use Rattle.digest.specs.Digest.{digestOf, folded, pairs}
 use Rattle.digest.proofs.Counts.{told-apart}
-use Rattle.block_state.specs.declared.Config.{Config}
+use Rattle.config.specs.declared.Config.{Config}
 use Rattle.block_table.specs.declared.Table.{Table}
 use Rattle.keys.specs.Lists.{find, all}
 use Rattle.entries.specs.Entries.{entryOk}

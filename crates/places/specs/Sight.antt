@@ -5,7 +5,7 @@ use mathlib.Core.Path.{_≡_}
 use mathlib.Core.List.{List}
 use lib.ListN.{length}
 use lib.Dec.{ltb, leb}
-use Rattle.block_state.specs.declared.Config.{Config}
+use Rattle.config.specs.declared.Config.{Config}
 use Rattle.keys.specs.Lists.{all}
 use Rattle.keys.specs.Keys.{keyOk}
 use Rattle.entries.specs.declared.Entry.{Entry}

@@ -1,5 +1,5 @@
 // What a call sees of the table, with the place of its key: the entry in use for it, else the lowest free one.
-use block_state::Config;
+use config::Config;
 use block_table::Table;
 use entries::Entry;
 ghost use mathlib.Core.Path.{_≡_};

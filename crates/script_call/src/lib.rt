@@ -1,6 +1,6 @@
 // The call that a line says, made and printed.
 use block_handler::Outcome;
-use block_state::Config;
+use config::Config;
 use block_table::Table;
 use script::Line;
 use script::Request;

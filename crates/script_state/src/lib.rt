@@ -1,5 +1,5 @@
 // Where a script stands, and what a program does around its lines: the start, the count, the output that waits.
-use block_state::Config;
+use config::Config;
 use block_table::Table;
 ghost use mathlib.Core.Path.{_≡_};
 ghost use Prim.Native.Nat.{_+_, _%_, _^_, _≤_};
