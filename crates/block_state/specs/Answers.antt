@@ -36,7 +36,7 @@ said (Continue b) = record { kind = continue; number = 0; block1 = Given b; bloc
 said (TooLarge b) = record { kind = tooLarge; number = 0; block1 = Given b; block2 = Absent; code = coapCode 4 13 }
 said (Handed b body) = record { kind = handed; number = 0; block1 = Given b; block2 = Absent; code = ofItsOwn }
 said Pass = record { kind = pass; number = 0; block1 = Absent; block2 = Absent; code = ofItsOwn }
-said (Served block1 b head chunk) = record { kind = served; number = 0; block1 = block1; block2 = Given b; code = ofItsOwn }
+said (Served s) = record { kind = served; number = 0; block1 = s .block1; block2 = Given (s .block2); code = ofItsOwn }
 said Plain = record { kind = plain; number = 0; block1 = Absent; block2 = Absent; code = ofItsOwn }
 said (Whole b chunk) = record { kind = whole; number = 0; block1 = Absent; block2 = Given b; code = ofItsOwn }
 said (First b chunk) = record { kind = first; number = 0; block1 = Absent; block2 = Given b; code = ofItsOwn }

@@ -4,7 +4,7 @@ use mathlib.Core.Bool.{Bool, true, false, cond, not, _&&_}
 use lib.Dec.{leb, eqb}
 use Rattle.negotiation.specs.declared.MaybeBlock.{MaybeBlock}
 use Rattle.negotiation.specs.declared.MaybeBlock.the-variants.{Absent, Given}
-use Rattle.block_state.specs.declared.Config.{Config}
+use Rattle.config.specs.declared.Config.{Config}
 use Rattle.block_state.specs.declared.Assembled.{Assembled}
 use Rattle.block_state.specs.declared.Cached.{Cached}
 use Rattle.block_state.specs.declared.Recorded.{Recorded}

@@ -2,20 +2,8 @@
 use block_value::BlockValue;
 use negotiation::MaybeBlock;
 
+pub mod limits;
 pub mod state;
-
-// BlockHandlerConfig in the Rust, with the mode and the sizes of the pieces.
-#[repr(C)]
-pub struct Config {
-    pub strict: bool,
-    // T, max_total_message_size in the Rust.
-    pub limit: usize,
-    // Milliseconds, cache_expiry_duration in the Rust.
-    pub lifetime: u64,
-    // U and V, the lengths of a piece of the upload memory and of the response memory.
-    pub upload: usize,
-    pub response: usize,
-}
 
 // What is assembled of an upload, cached_request_payload in the Rust: its length, and the exponent of the last block taken.
 #[repr(C)]
@@ -55,6 +43,31 @@ pub struct Part {
     pub to: usize,
 }
 
+// A request's numbers: when it came, its length without the payload, and whether it has a Block1 and a Block2 option.
+#[repr(C)]
+pub struct RequestNumbers {
+    pub time: u64,
+    pub bare: usize,
+    pub block1: bool,
+    pub block2: bool,
+}
+
+// A response's numbers: the same, and whether it has a Block2 option of its own.
+#[repr(C)]
+pub struct ResponseNumbers {
+    pub time: u64,
+    pub bare: usize,
+    pub own: bool,
+}
+
+// What is served from the cache: a Block1 value if the call completed a body, the Block2 value, and the head and the chunk, parts of the response memory.
+pub struct Served {
+    pub block1: MaybeBlock,
+    pub block2: BlockValue,
+    pub head: Part,
+    pub chunk: Part,
+}
+
 pub enum Answer {
     // 2.31, with the Block1 value.
     Continue(BlockValue),
@@ -64,8 +77,8 @@ pub enum Answer {
     Handed(BlockValue, Part),
     // To the application, with the message's own payload.
     Pass,
-    // From the cache: a Block1 value if the call completed a body, the Block2 value, and the head and the chunk, parts of the response memory.
-    Served(MaybeBlock, BlockValue, Part, Part),
+    // From the cache.
+    Served(Served),
     // The response goes out as it is.
     Plain,
     // The response goes out with this Block2 value and this part of its own payload; nothing is cached.

@@ -24,18 +24,6 @@ pub fn refused(state: BlockState, n: u8) -> Stepped
     answered(state, Answer::Refused(n))
 }
 
-pub fn wide8(x: u8) -> usize
-    ensures { λ r. ⌜ (r ≡ x) × (r < 256) ⌝ }
-{
-    x as usize
-}
-
-pub fn wide32(x: u32) -> usize
-    ensures { λ r. ⌜ (r ≡ x) × (r < 2 ^ 32) ⌝ }
-{
-    x as usize
-}
-
 pub fn with_assembled(state: BlockState, len: usize, exponent: u8) -> BlockState
     requires { ⌜ len < 2 ^ 32 ⌝ }
     ensures { λ r. ⌜ r ≡ withAssembled state (assembly len exponent) ⌝ }

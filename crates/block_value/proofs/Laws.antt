@@ -10,6 +10,7 @@ use lib.Dec.{lit<}
 use lib.Pow.{pow-add, pow-mono, pow-lt, shl-exact}
 use lib.ListN.{length, getD}
 use borrow.Author.Tests.{le-leb, lt-leb, lt-ltb, le-ltb, eq-eqb, ne-eqb}
+use Rattle.config.specs.declared.Config.{Config}
 use Rattle.block_value.specs.Value.{largestPower, exponentOf, made, sizeOf, unpacked, readOf, shortest}
 use Rattle.block_value.specs.declared.Made.the-variants as made-variants
 use Rattle.block_value.specs.declared.Reading.the-variants.{Value, Unreadable}
@@ -67,50 +68,50 @@ exponent-size e h =
 
 -- ---- make, by its cases
 
-module _ (num : ℕ) (more : Bool) (size : ℕ) where
-  pub made-zero : size ≡ 0 → made num more size ≡ made-variants.Refused
+module _ (c : Config) (num : ℕ) (more : Bool) (size : ℕ) where
+  pub made-zero : size ≡ 0 → made c num more size ≡ made-variants.Refused
   unfolding made
   made-zero h = rw (eq-eqb size 0 h)
 
-  pub made-large : (size ≡ 0 → ⊥) → 7 < exponentOf size → made num more size ≡ made-variants.Refused
+  pub made-large : (size ≡ 0 → ⊥) → 7 < exponentOf size → made c num more size ≡ made-variants.Refused
   unfolding made
   made-large z h = rw (ne-eqb size 0 z, lt-ltb 7 (exponentOf size) h)
 
-  pub made-far : (size ≡ 0 → ⊥) → exponentOf size ≤ 7 → 65535 < num → made num more size ≡ made-variants.Refused
+  pub made-far : (size ≡ 0 → ⊥) → exponentOf size ≤ 7 → 65535 < num → made c num more size ≡ made-variants.Refused
   unfolding made
   made-far z h n = rw (ne-eqb size 0 z, le-ltb 7 (exponentOf size) h, lt-ltb 65535 num n)
 
   pub made-well : (size ≡ 0 → ⊥) → (e : ℕ) → e ≡ exponentOf size → e ≤ 7 → num ≤ 65535
-      → made num more size ≡ made-variants.Value (record { num = num; more = more; «size_exponent» = e })
+      → made c num more size ≡ made-variants.Value (record { num = num; more = more; «size_exponent» = e })
   unfolding made
   made-well z e q h n = rw (q, ne-eqb size 0 z, le-ltb 7 (exponentOf size) (rw q at h), le-ltb 65535 num n)
 
 -- ---- read, by the option's length
 
-pub read-0 : (l : List ℕ) → length l ≡ 0 → readOf l ≡ Value (unpacked 0)
+pub read-0 : (c : Config) (l : List ℕ) → length l ≡ 0 → readOf c l ≡ Value (unpacked 0)
 unfolding readOf
-read-0 [] h = refl
-read-0 (x ∷ l) h = absurd (omega arith)
+read-0 c [] h = refl
+read-0 c (x ∷ l) h = absurd (omega arith)
 
-pub read-1 : (l : List ℕ) → length l ≡ 1 → readOf l ≡ Value (unpacked (getD l 0 0))
+pub read-1 : (c : Config) (l : List ℕ) → length l ≡ 1 → readOf c l ≡ Value (unpacked (getD l 0 0))
 unfolding readOf
-read-1 [] h = absurd (omega arith)
-read-1 (x ∷ []) h = refl
-read-1 (x ∷ y ∷ l) h = absurd (omega arith)
+read-1 c [] h = absurd (omega arith)
+read-1 c (x ∷ []) h = refl
+read-1 c (x ∷ y ∷ l) h = absurd (omega arith)
 
-pub read-2 : (l : List ℕ) → length l ≡ 2 → readOf l ≡ Value (unpacked (getD l 0 0 * 256 + getD l 1 0))
+pub read-2 : (c : Config) (l : List ℕ) → length l ≡ 2 → readOf c l ≡ Value (unpacked (getD l 0 0 * 256 + getD l 1 0))
 unfolding readOf
-read-2 [] h = absurd (omega arith)
-read-2 (x ∷ []) h = absurd (omega arith)
-read-2 (x ∷ y ∷ []) h = refl
-read-2 (x ∷ y ∷ z ∷ l) h = absurd (omega arith)
+read-2 c [] h = absurd (omega arith)
+read-2 c (x ∷ []) h = absurd (omega arith)
+read-2 c (x ∷ y ∷ []) h = refl
+read-2 c (x ∷ y ∷ z ∷ l) h = absurd (omega arith)
 
-pub read-more : (l : List ℕ) → 2 < length l → readOf l ≡ Unreadable
+pub read-more : (c : Config) (l : List ℕ) → 2 < length l → readOf c l ≡ Unreadable
 unfolding readOf
-read-more [] h = absurd (omega arith)
-read-more (x ∷ []) h = absurd (omega arith)
-read-more (x ∷ y ∷ []) h = absurd (omega arith)
-read-more (x ∷ y ∷ z ∷ l) h = refl
+read-more c [] h = absurd (omega arith)
+read-more c (x ∷ []) h = absurd (omega arith)
+read-more c (x ∷ y ∷ []) h = absurd (omega arith)
+read-more c (x ∷ y ∷ z ∷ l) h = refl
 
 -- ---- write, by the number's size
 

@@ -8,6 +8,7 @@ use native.Mathlib.Omega.{arith}
 use lib.Dec.{ltb, eqb}
 use lib.ListN.{length, take}
 use borrow.Author.Tests.{eqb-true, eqb-false, ltb-true, ltb-false}
+use Rattle.config.specs.declared.Config.{Config}
 use Rattle.block_value.specs.Value.{sizeOf, unpacked, readOf, packed, shortest, written, inTwo}
 use Rattle.block_value.specs.Rfc7959.{uint, Bytes, Holds, bytesIn, Fewest}
 use Rattle.block_value.specs.declared.BlockValue.{BlockValue}
@@ -56,22 +57,22 @@ unpacked-holds option b h = record { bytes = b; few = h; scalar = go (eqb (v / 8
     go true e = omega (arith, eqb-true (v / 8 % 2) 1 e)
     go false e = let z = eqb-false (v / 8 % 2) 1 e in omega arith
 
-read-value : (option : List ℕ) → length option ≤ 2 → readOf option ≡ Value (unpacked (uint option))
+read-value : (c : Config) (option : List ℕ) → length option ≤ 2 → readOf c option ≡ Value (unpacked (uint option))
 unfolding readOf uint
-read-value [] h = refl
-read-value (a ∷ []) h = ap (λ (n : ℕ). Value (unpacked n)) (omega arith)
-read-value (a ∷ b ∷ []) h = ap (λ (n : ℕ). Value (unpacked n)) (omega arith)
-read-value (a ∷ b ∷ c ∷ l) h = absurd (omega arith)
+read-value c [] h = refl
+read-value c (a ∷ []) h = ap (λ (n : ℕ). Value (unpacked n)) (omega arith)
+read-value c (a ∷ b ∷ []) h = ap (λ (n : ℕ). Value (unpacked n)) (omega arith)
+read-value c (a ∷ b ∷ d ∷ l) h = absurd (omega arith)
 
 -- READ: an option of at most 2 bytes is read, and as the RFC reads it.
-pub read-as-the-rfc : (option : List ℕ) → Bytes option → length option ≤ 2
-    → (b : BlockValue) × (readOf option ≡ Value b) × Holds option (b .num) (b .more) (b .«size_exponent»)
-read-as-the-rfc option b h = (unpacked (uint option), read-value option h, unpacked-holds option b (omega arith))
+pub read-as-the-rfc : (c : Config) (option : List ℕ) → Bytes option → length option ≤ 2
+    → (b : BlockValue) × (readOf c option ≡ Value b) × Holds option (b .num) (b .more) (b .«size_exponent»)
+read-as-the-rfc c option b h = (unpacked (uint option), read-value c option h, unpacked-holds option b (omega arith))
 
 -- Its num is at most 4095.
-pub read-num : (option : List ℕ) (b : BlockValue) → Bytes option → length option ≤ 2 → readOf option ≡ Value b → b .num ≤ 4095
-read-num option b h few e =
-    let same : unpacked (uint option) ≡ b = cc (read-value option few) in
+pub read-num : (c : Config) (option : List ℕ) (b : BlockValue) → Bytes option → length option ≤ 2 → readOf c option ≡ Value b → b .num ≤ 4095
+read-num c option b h few e =
+    let same : unpacked (uint option) ≡ b = cc (read-value c option few) in
     let below : uint option < 65536 = spelled-below option h few in
     rw (← same) (omega arith)
 
@@ -116,29 +117,29 @@ in-two (x ∷ []) h = refl
 in-two (x ∷ y ∷ []) h = refl
 in-two (x ∷ y ∷ z ∷ l) h = absurd (omega arith)
 
-module _ (b : BlockValue) (few : b .num ≤ 4095) (known : b .«size_exponent» ≤ 7) where
-  packed-is : packed b ≡ b .num * 16 + cond (b .more) 8 0 + b .«size_exponent»
+module _ (c : Config) (b : BlockValue) (few : b .num ≤ 4095) (known : b .«size_exponent» ≤ 7) where
+  packed-is : packed c b ≡ b .num * 16 + cond (b .more) 8 0 + b .«size_exponent»
   packed-is = omega arith
 
-  spells : Spells (written b) (packed b)
-  spells = shortest-spells (packed b) (go (b .more))
+  spells : Spells (written c b) (packed c b)
+  spells = shortest-spells (packed c b) (go (b .more))
     where
       go : (m : Bool) → b .num % 4096 * 16 + cond m 8 0 + b .«size_exponent» % 8 < 65536
       go true = omega arith
       go false = omega arith
 
   -- WRITTEN, for a num of at most 4095: the RFC's shortest form, and the RFC reads the same value back.
-  pub written-as-the-rfc : Holds (written b) (b .num) (b .more) (b .«size_exponent») × Fewest (written b)
+  pub written-as-the-rfc : Holds (written c b) (b .num) (b .more) (b .«size_exponent») × Fewest (written c b)
   written-as-the-rfc =
       (record { bytes = spells .bytes; few = omega (arith, spells .few); scalar = spells .value ∙ packed-is; three-bits = omega arith }, spells .fewest)
 
   -- The bytes that `write` returns are those, and only those.
-  pub returned : take (inTwo (written b) .len) (inTwo (written b) .bytes) ≡ written b
-  returned = in-two (written b) (spells .few)
+  pub returned : take (inTwo (written c b) .len) (inTwo (written c b) .bytes) ≡ written c b
+  returned = in-two (written c b) (spells .few)
 
   -- READ AFTER WRITE is the identity.
-  pub read-after-write : readOf (written b) ≡ Value b
+  pub read-after-write : readOf c (written c b) ≡ Value b
   read-after-write =
-      let r = read-as-the-rfc (written b) (spells .bytes) (spells .few) in
-      let same = holds-one (written b) (r .0 .num) (b .num) (r .0 .more) (b .more) (r .0 .«size_exponent») (b .«size_exponent») (r .2) (written-as-the-rfc .0) in
+      let r = read-as-the-rfc c (written c b) (spells .bytes) (spells .few) in
+      let same = holds-one (written c b) (r .0 .num) (b .num) (r .0 .more) (b .more) (r .0 .«size_exponent») (b .«size_exponent») (r .2) (written-as-the-rfc .0) in
       r .1 ∙ (λ i. Value (record { num = same .0 i; more = same .1 i; «size_exponent» = same .2 i }))

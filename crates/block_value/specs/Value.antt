@@ -1,9 +1,11 @@
--- Document 01, "Block value": what make, size, read and write come to, on numbers and lists of bytes.
+-- Document 01, "Block value": what make, size, read and write come to, on numbers and lists of bytes. Make, read and write take the configuration; they
+-- are the same under each.
 use Prim.Native.Nat.{ℕ, zero, suc, _+_, _-_, _*_, _/_, _%_, _^_}
 use mathlib.Core.Bool.{Bool, cond}
 use mathlib.Core.List.{List, [], _∷_, _++_}
 use lib.Dec.{leb, ltb, eqb}
 use lib.ListN.{length, take}
+use Rattle.config.specs.declared.Config.{Config}
 use Rattle.block_value.specs.declared.BlockValue.{BlockValue}
 use Rattle.block_value.specs.declared.Made.{Made}
 use Rattle.block_value.specs.declared.Made.the-variants as made-variants
@@ -21,8 +23,8 @@ abbrev pub exponentOf : ℕ → ℕ
 exponentOf size = largestPower 63 size - 4
 
 -- "Size 0 is refused; .. an exponent above 7 or a num above 65,535 is refused."
-unfoldable pub made : ℕ → Bool → ℕ → Made
-made num more size =
+unfoldable pub made : Config → ℕ → Bool → ℕ → Made
+made c num more size =
     cond (eqb size 0) made-variants.Refused
     (cond (ltb 7 (exponentOf size)) made-variants.Refused
     (cond (ltb 65535 num) made-variants.Refused
@@ -44,22 +46,22 @@ abbrev pub unpacked : ℕ → BlockValue
 unpacked scalar = record { num = scalar / 16; more = eqb (scalar / 8 % 2) 1; «size_exponent» = scalar % 8 }
 
 -- "An option of at most 2 bytes, big-endian, empty meaning 0. .. A longer option is unreadable."
-unfoldable pub readOf : List ℕ → Reading
-readOf [] = Value (unpacked 0)
-readOf (a ∷ []) = Value (unpacked a)
-readOf (a ∷ b ∷ []) = Value (unpacked (a * 256 + b))
-readOf (a ∷ b ∷ c ∷ rest) = Unreadable
+unfoldable pub readOf : Config → List ℕ → Reading
+readOf c [] = Value (unpacked 0)
+readOf c (a ∷ []) = Value (unpacked a)
+readOf c (a ∷ b ∷ []) = Value (unpacked (a * 256 + b))
+readOf c (a ∷ b ∷ d ∷ rest) = Unreadable
 
 -- "Num*16 + 8 if more + exponent, num taken modulo 4096."
-abbrev pub packed : BlockValue → ℕ
-packed b = b .num % 4096 * 16 + cond (b .more) 8 0 + b .«size_exponent» % 8
+abbrev pub packed : Config → BlockValue → ℕ
+packed c b = b .num % 4096 * 16 + cond (b .more) 8 0 + b .«size_exponent» % 8
 
 -- The "shortest big-endian form" of a number below 65536.
 unfoldable pub shortest : ℕ → List ℕ
 shortest scalar = cond (eqb scalar 0) [] (cond (ltb scalar 256) (scalar ∷ []) (scalar / 256 ∷ scalar % 256 ∷ []))
 
-abbrev pub written : BlockValue → List ℕ
-written b = shortest (packed b)
+abbrev pub written : Config → BlockValue → List ℕ
+written c b = shortest (packed c b)
 
 -- A list of at most two bytes as the code returns it.
 abbrev pub inTwo : List ℕ → Written

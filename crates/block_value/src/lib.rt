@@ -1,4 +1,5 @@
 // The block value of a Block1 or Block2 option: make, size, read, write.
+use config::Config;
 ghost use mathlib.Core.Path.{_≡_};
 ghost use Prim.Native.Nat.{_*_, _^_, _<_, _≤_};
 ghost use Rattle.block_value.specs.Value.{largestPower, made, blockSize, blockStart, unpacked, readOf, packed, written, inTwo};
@@ -42,8 +43,9 @@ fn largest_power_of_2_not_in_excess(target: usize) -> usize
     exponent
 }
 
-pub fn make(num: usize, more: bool, size: usize) -> Made
-    ensures { λ r. ⌜ r ≡ made num more size ⌝ }
+// The configuration makes no difference to make, read and write yet.
+pub fn make(config: Config, num: usize, more: bool, size: usize) -> Made
+    ensures { λ r. ⌜ r ≡ made config num more size ⌝ }
 {
     if size == 0 {
         return Made::Refused;
@@ -90,12 +92,6 @@ pub fn start(block: BlockValue) -> usize
     times(block.num, size(block))
 }
 
-fn wide(x: u8) -> u32
-    ensures { λ r. ⌜ (r ≡ x) × (r < 256) ⌝ }
-{
-    x as u32
-}
-
 fn unpack(scalar: u32) -> BlockValue
     ensures { λ r. ⌜ r ≡ unpacked scalar ⌝ }
 {
@@ -106,37 +102,39 @@ fn unpack(scalar: u32) -> BlockValue
     }
 }
 
-pub fn read(option: &[u8]) -> Reading
-    ensures { λ r. ⌜ r ≡ readOf (now (option .entry)) ⌝ }
+pub fn read(config: Config, option: &[u8]) -> Reading
+    ensures { λ r. ⌜ r ≡ readOf config (now (option .entry)) ⌝ }
 {
     let n = option.len();
     if n == 0 {
         return Reading::Value(unpack(0));
     }
     if n == 1 {
-        return Reading::Value(unpack(wide(option[0])));
+        return Reading::Value(unpack(wide::u32_of_u8(option[0])));
     }
     if n == 2 {
-        return Reading::Value(unpack(wide(option[0]) * 256 + wide(option[1])));
+        return Reading::Value(unpack(
+            wide::u32_of_u8(option[0]) * 256 + wide::u32_of_u8(option[1]),
+        ));
     }
     Reading::Unreadable
 }
 
-fn pack(block: BlockValue) -> u32
-    ensures { λ r. ⌜ (r ≡ packed block) × (r < 65536) ⌝ }
+fn pack(config: Config, block: BlockValue) -> u32
+    ensures { λ r. ⌜ (r ≡ packed config block) × (r < 65536) ⌝ }
 {
     let num = block.num;
-    let exponent = wide(block.size_exponent % 8);
+    let exponent = wide::u32_of_u8(block.size_exponent % 8);
     if block.more {
         return num % 4096 * 16 + 8 + exponent;
     }
     num % 4096 * 16 + exponent
 }
 
-pub fn write(block: BlockValue) -> Written
-    ensures { λ r. ⌜ r ≡ inTwo (written block) ⌝ }
+pub fn write(config: Config, block: BlockValue) -> Written
+    ensures { λ r. ⌜ r ≡ inTwo (written config block) ⌝ }
 {
-    let scalar = pack(block);
+    let scalar = pack(config, block);
     if scalar == 0 {
         return Written {
             len: 0,

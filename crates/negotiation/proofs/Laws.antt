@@ -6,6 +6,7 @@ use Prim.Native.Nat.{ℕ, _+_, _-_, _*_, _/_, min, _≤_, _<_}
 use native.Mathlib.Omega.{arith}
 use lib.Dec.{ltb, leb}
 use borrow.Author.Tests.{lt-ltb, le-ltb, le-leb, lt-leb, eq-eqb, ne-eqb, leb-true, leb-false}
+use Rattle.config.specs.declared.Config.{Config}
 use Rattle.block_value.specs.Value.{made, blockSize, blockStart, readOf}
 use Rattle.block_value.specs.declared.BlockValue.{BlockValue}
 use Rattle.block_value.specs.declared.Reading.{Reading}
@@ -18,43 +19,43 @@ use Rattle.negotiation.specs.Chunk.{chunkOf}
 
 -- ---- the option
 
-pub asks-none : (given : Bool) (bytes : List ℕ) → given ≡ false → requestBlock (optionOf given bytes) ≡ Absent
+pub asks-none : (c : Config) (given : Bool) (bytes : List ℕ) → given ≡ false → requestBlock c (optionOf given bytes) ≡ Absent
 unfolding requestBlock
-asks-none given bytes e = rw e
+asks-none c given bytes e = rw e
 
-pub asks-as-read : (given : Bool) (bytes : List ℕ) (r s : Reading) → given ≡ true → r ≡ readOf bytes → r ≡ s → requestBlock (optionOf given bytes) ≡ counted s
+pub asks-as-read : (c : Config) (given : Bool) (bytes : List ℕ) (r s : Reading) → given ≡ true → r ≡ readOf c bytes → r ≡ s → requestBlock c (optionOf given bytes) ≡ counted s
 unfolding requestBlock
-asks-as-read given bytes r s e f h = rw (e, ← f, h)
+asks-as-read c given bytes r s e f h = rw (e, ← f, h)
 
 -- ---- the reply
 
-pub reply-none : (offset g p : ℕ) → g ≡ 0 → replyAt offset g p ≡ Refused 5
+pub reply-none : (c : Config) (offset g p : ℕ) → g ≡ 0 → replyAt c offset g p ≡ Refused 5
 unfolding replyAt
-reply-none offset g p h = rw (eq-eqb g 0 h)
+reply-none c offset g p h = rw (eq-eqb g 0 h)
 
-pub reply-made : (offset g p : ℕ) → (g ≡ 0 → ⊥) → replyAt offset g p ≡ replyOf (made (offset / g) (ltb (offset + g) p) g)
+pub reply-made : (c : Config) (offset g p : ℕ) → (g ≡ 0 → ⊥) → replyAt c offset g p ≡ replyOf (made c (offset / g) (ltb (offset + g) p) g)
 unfolding replyAt
-reply-made offset g p h = rw (ne-eqb g 0 h)
+reply-made c offset g p h = rw (ne-eqb g 0 h)
 
-module _ (b : MaybeBlock) (bare p t : ℕ) where
-  pub no-room : t < bare + 12 → negotiated b bare p t ≡ Refused 4
+module _ (c : Config) (b : MaybeBlock) (bare p : ℕ) where
+  pub no-room : c .limit < bare + 12 → negotiated c b bare p ≡ Refused 4
   unfolding negotiated
-  no-room h = rw (lt-ltb t (bare + 12) h)
+  no-room h = rw (lt-ltb (c .limit) (bare + 12) h)
 
-  pub with-room : (m : ℕ) → bare + 12 ≤ t → m ≡ t - bare - 12 → negotiated b bare p t ≡ within b p m
+  pub with-room : (m : ℕ) → bare + 12 ≤ c .limit → m ≡ c .limit - bare - 12 → negotiated c b bare p ≡ within c b p m
   unfolding negotiated
-  with-room m h e = rw (le-ltb t (bare + 12) h, e)
+  with-room m h e = rw (le-ltb (c .limit) (bare + 12) h, e)
 
-module _ (b : MaybeBlock) (p m : ℕ) where
-  pub absent-fits : b ≡ Absent → p < m → within b p m ≡ NoBlock
+module _ (c : Config) (b : MaybeBlock) (p m : ℕ) where
+  pub absent-fits : b ≡ Absent → p < m → within c b p m ≡ NoBlock
   unfolding within
   absent-fits e h = rw (e, lt-ltb p m h)
 
-  pub absent-large : b ≡ Absent → m ≤ p → within b p m ≡ replyOf (made 0 true m)
+  pub absent-large : b ≡ Absent → m ≤ p → within c b p m ≡ replyOf (made c 0 true m)
   unfolding within
   absent-large e h = rw (e, le-ltb p m h)
 
-  pub given-at : (x : BlockValue) → b ≡ Given x → within b p m ≡ replyAt (blockStart x) (min (blockSize x) m) p
+  pub given-at : (x : BlockValue) → b ≡ Given x → within c b p m ≡ replyAt c (blockStart x) (min (blockSize x) m) p
   unfolding within
   given-at x e = rw e
 

@@ -4,6 +4,7 @@ use mathlib.Core.Bool.{Bool, true, cond}
 use mathlib.Core.List.{List}
 use mathlib.Core.Option.{Option, none, some}
 use lib.Dec.{ltb, eqb}
+use Rattle.config.specs.declared.Config.{Config}
 use Rattle.block_value.specs.Value.{made, blockSize, blockStart, readOf}
 use Rattle.block_value.specs.declared.Made.{Made}
 use Rattle.block_value.specs.declared.Made.the-variants as made-variants
@@ -23,9 +24,9 @@ abbrev pub counted : Reading → MaybeBlock
 counted (Value b) = Given b
 counted Unreadable = Absent
 
-unfoldable pub requestBlock : Option (List ℕ) → MaybeBlock
-requestBlock none = Absent
-requestBlock (some bytes) = counted (readOf bytes)
+unfoldable pub requestBlock : Config → Option (List ℕ) → MaybeBlock
+requestBlock c none = Absent
+requestBlock c (some bytes) = counted (readOf c bytes)
 
 -- "A make that is refused is refusal 5."
 abbrev pub replyOf : Made → Negotiated
@@ -33,14 +34,14 @@ replyOf (made-variants.Value b) = Block b
 replyOf made-variants.Refused = Refused 5
 
 -- "If g = 0, refusal 5. Else make(floor(ks/g), ks + g < p, g)", at offset = ks: g is used unrounded.
-unfoldable pub replyAt : ℕ → ℕ → ℕ → Negotiated
-replyAt offset g p = cond (eqb g 0) (Refused 5) (replyOf (made (offset / g) (ltb (offset + g) p) g))
+unfoldable pub replyAt : Config → ℕ → ℕ → ℕ → Negotiated
+replyAt c offset g p = cond (eqb g 0) (Refused 5) (replyOf (made c (offset / g) (ltb (offset + g) p) g))
 
 -- "None: p < m gives no block; else make(0, more, m). Given num k, size s: g = min(s, m)."
-unfoldable pub within : MaybeBlock → ℕ → ℕ → Negotiated
-within Absent p m = cond (ltb p m) NoBlock (replyOf (made 0 true m))
-within (Given b) p m = replyAt (blockStart b) (min (blockSize b) m) p
+unfoldable pub within : Config → MaybeBlock → ℕ → ℕ → Negotiated
+within c Absent p m = cond (ltb p m) NoBlock (replyOf (made c 0 true m))
+within c (Given b) p m = replyAt c (blockStart b) (min (blockSize b) m) p
 
--- "If bare + 12 > T: refusal 4. Let m = T - bare - 12."
-unfoldable pub negotiated : MaybeBlock → ℕ → ℕ → ℕ → Negotiated
-negotiated b bare p t = cond (ltb t (bare + 12)) (Refused 4) (within b p (t - bare - 12))
+-- "If bare + 12 > T: refusal 4. Let m = T - bare - 12." T is the configuration's limit.
+unfoldable pub negotiated : Config → MaybeBlock → ℕ → ℕ → Negotiated
+negotiated c b bare p = cond (ltb (c .limit) (bare + 12)) (Refused 4) (within c b p (c .limit - bare - 12))

@@ -2,6 +2,7 @@
 use block_value::BlockValue;
 use block_value::Made;
 use block_value::Reading;
+use config::Config;
 ghost use mathlib.Core.Path.{_≡_};
 ghost use Prim.Native.Nat.{_^_, _<_, _≤_, min};
 ghost use Rattle.block_value.specs.Value.{blockSize, blockStart};
@@ -30,11 +31,11 @@ pub enum Chunk {
 }
 
 // The block value of an option, where the message has one. One that cannot be read counts as absent.
-pub fn request_block(given: bool, option: &[u8]) -> MaybeBlock
-    ensures { λ r. ⌜ r ≡ requestBlock (optionOf given (now (option .entry))) ⌝ }
+pub fn request_block(config: Config, given: bool, option: &[u8]) -> MaybeBlock
+    ensures { λ r. ⌜ r ≡ requestBlock config (optionOf given (now (option .entry))) ⌝ }
 {
     if given {
-        let Reading::Value(block) = block_value::read(option) else {
+        let Reading::Value(block) = block_value::read(config, option) else {
             return MaybeBlock::Absent;
         };
         return MaybeBlock::Given(block);
@@ -52,41 +53,46 @@ fn reply_of(made: Made) -> Negotiated
 }
 
 // The reply to a block that starts at `offset`, for `size` bytes, unrounded: what is made need neither start there nor hold that byte.
-fn reply_at(offset: usize, size: usize, total_payload_size: usize) -> Negotiated
+fn reply_at(config: Config, offset: usize, size: usize, total_payload_size: usize) -> Negotiated
     requires { ⌜ (offset < 2 ^ 43) × (size ≤ 2048) ⌝ }
-    ensures { λ r. ⌜ r ≡ replyAt offset size «total_payload_size» ⌝ }
+    ensures { λ r. ⌜ r ≡ replyAt config offset size «total_payload_size» ⌝ }
 {
     if size == 0 {
         return Negotiated::Refused(5);
     }
     let more = offset + size < total_payload_size;
-    reply_of(block_value::make(offset / size, more, size))
+    reply_of(block_value::make(config, offset / size, more, size))
 }
 
-fn reply_to(block: BlockValue, total_payload_size: usize, max_block_size: usize) -> Negotiated
-    ensures { λ r. ⌜ r ≡ replyAt (blockStart block) (min (blockSize block) «max_block_size») «total_payload_size» ⌝ }
+fn reply_to(
+    config: Config,
+    block: BlockValue,
+    total_payload_size: usize,
+    max_block_size: usize,
+) -> Negotiated
+    ensures { λ r. ⌜ r ≡ replyAt config (blockStart block) (min (blockSize block) «max_block_size») «total_payload_size» ⌝ }
 {
     let size = block_value::size(block);
     let offset = block_value::start(block);
     if size < max_block_size {
-        return reply_at(offset, size, total_payload_size);
+        return reply_at(config, offset, size, total_payload_size);
     }
-    reply_at(offset, max_block_size, total_payload_size)
+    reply_at(config, offset, max_block_size, total_payload_size)
 }
 
 // The block value to answer with, if there is to be one, for a message of `bare` bytes besides its payload.
 pub fn negotiate_block_size_if_necessary(
+    config: Config,
     request_block: MaybeBlock,
     bare: usize,
     total_payload_size: usize,
-    max_total_message_size: usize,
 ) -> Negotiated
-    ensures { λ r. ⌜ r ≡ negotiated «request_block» bare «total_payload_size» «max_total_message_size» ⌝ }
+    ensures { λ r. ⌜ r ≡ negotiated config «request_block» bare «total_payload_size» ⌝ }
 {
-    if max_total_message_size < BLOCK_OPTIONS_MAX_LENGTH {
+    if config.limit < BLOCK_OPTIONS_MAX_LENGTH {
         return Negotiated::Refused(4);
     }
-    let room = max_total_message_size - BLOCK_OPTIONS_MAX_LENGTH;
+    let room = config.limit - BLOCK_OPTIONS_MAX_LENGTH;
     if room < bare {
         return Negotiated::Refused(4);
     }
@@ -96,9 +102,9 @@ pub fn negotiate_block_size_if_necessary(
             if total_payload_size < max_block_size {
                 return Negotiated::NoBlock;
             }
-            reply_of(block_value::make(0, true, max_block_size))
+            reply_of(block_value::make(config, 0, true, max_block_size))
         }
-        MaybeBlock::Given(block) => reply_to(block, total_payload_size, max_block_size),
+        MaybeBlock::Given(block) => reply_to(config, block, total_payload_size, max_block_size),
     }
 }
 

@@ -1,2 +1,4 @@
+pub mod Taking
+pub mod Serving
 pub mod Steps
 pub mod StepKeeps

@@ -1,42 +1,50 @@
 -- The laws of a request's step, a law for each branch: what the code's answers come to. Assumes nothing.
 use Prim.Native.Nat.{ℕ}
-use mathlib.Core.Path.{_≡_, _∙_}
+use mathlib.Core.Path.{_≡_}
 use mathlib.Core.List.{List}
 use lib.ListN.{length}
+use Rattle.config.specs.declared.Config.{Config}
 use Rattle.block_value.specs.declared.BlockValue.{BlockValue}
-use Rattle.negotiation.specs.Negotiation.{requestBlock, negotiated}
+use Rattle.negotiation.specs.Negotiation.{requestBlock}
 use Rattle.negotiation.specs.declared.MaybeBlock.{MaybeBlock}
 use Rattle.negotiation.specs.declared.MaybeBlock.the-variants.{Absent, Given}
 use Rattle.negotiation.specs.declared.Negotiated.{Negotiated}
 use Rattle.negotiation.specs.declared.Negotiated.the-variants as agreed
-use Rattle.block_state.specs.declared.Config.{Config}
 use Rattle.block_state.specs.declared.BlockState.{BlockState}
+use Rattle.block_state.specs.declared.RequestNumbers.{RequestNumbers}
 use Rattle.block_state.specs.declared.Answer.the-variants.{TooLarge, Pass, Refused}
-use Rattle.block_state.specs.Message.{Request}
+use Rattle.block_state.specs.Contract.{asking}
 use Rattle.block_state.specs.Step.{left}
-use Rattle.request_block2.specs.Block2.{onward}
-use Rattle.request_block1.specs.Block1.{block1Given}
-use Rattle.request_step.specs.Step.{onNegotiated, stepRequest}
+use Rattle.request_step.specs.declared.Asked.{Asked}
+use Rattle.request_step.specs.declared.Taken.{Taken}
+use Rattle.request_step.specs.Block1.{taken, pieceTaken}
+use Rattle.request_step.specs.Block2.{onward}
+use Rattle.request_step.specs.Step.{onTaken, block1Given, onNegotiated, stepWith, stepRequest, askedBy}
 
-module _ (c : Config) (home at : ℕ) (s : BlockState) (u : List ℕ) (r : Request) (block1 block2 : MaybeBlock) (reply : Negotiated)
-    (e1 : block1 ≡ requestBlock (r .block1)) (e2 : block2 ≡ requestBlock (r .block2))
-    (en : reply ≡ negotiated block1 (r .bare) (length (r .payload)) (c .limit)) where
-  goes : stepRequest c home at s u r ≡ onNegotiated c home at s u block2 (r .payload) block1 reply
-  unfolding stepRequest
-  goes = rw (← e2, ← e1, ← en)
-
-  pub request-refused : (n : ℕ) → reply ≡ agreed.Refused n → stepRequest c home at s u r ≡ left s u (Refused n)
+module _ (c : Config) (home at : ℕ) (s : BlockState) (u : List ℕ) (block2 : MaybeBlock) (payload : List ℕ) (block1 : MaybeBlock) (reply : Negotiated) where
+  pub step-refused : (n : ℕ) → reply ≡ agreed.Refused n → onNegotiated c home at s u block2 payload block1 reply ≡ left s u (Refused n)
   unfolding onNegotiated
-  request-refused n h = goes ∙ rw h
+  step-refused n h = rw h
 
-  pub request-plain : reply ≡ agreed.NoBlock → stepRequest c home at s u r ≡ onward at s u block2 Absent Pass
+  pub step-plain : reply ≡ agreed.NoBlock → onNegotiated c home at s u block2 payload block1 reply ≡ onward at s u block2 Absent Pass
   unfolding onNegotiated
-  request-plain h = goes ∙ rw h
+  step-plain h = rw h
 
-  pub request-large : (b : BlockValue) → reply ≡ agreed.Block b → block1 ≡ Absent → stepRequest c home at s u r ≡ left s u (TooLarge b)
-  unfolding onNegotiated
-  request-large b h k = goes ∙ rw (h, k)
+  module _ (b : BlockValue) (h : reply ≡ agreed.Block b) where
+    pub step-large : block1 ≡ Absent → onNegotiated c home at s u block2 payload block1 reply ≡ left s u (TooLarge b)
+    unfolding onNegotiated
+    step-large k = rw (h, k)
 
-  pub request-given : (x b : BlockValue) → reply ≡ agreed.Block b → block1 ≡ Given x → stepRequest c home at s u r ≡ block1Given c home at s u block2 (r .payload) x b
-  unfolding onNegotiated
-  request-given x b h k = goes ∙ rw (h, k)
+    -- a block that is given, by what taking it came to
+    pub step-given : (x : BlockValue) (t : Taken) → block1 ≡ Given x → t ≡ taken c (s .assembled) x (length payload)
+        → onNegotiated c home at s u block2 payload block1 reply
+        ≡ onTaken home at s (pieceTaken c (s .assembled) u x payload t) block2 (x .«size_exponent») b t
+    unfolding onNegotiated block1Given
+    step-given x t k e = rw (h, k, e)
+
+-- a step with the options read is the request's
+pub step-read : (c : Config) (home at : ℕ) (s : BlockState) (u : List ℕ) (q : RequestNumbers) (option1 option2 payload : List ℕ) (a : Asked)
+    → a ≡ askedBy c q option1 option2
+    → stepWith c home at s u (a .bare) (a .block1) (a .block2) payload ≡ stepRequest c home at s u (asking q option1 option2 payload)
+unfolding stepRequest
+step-read c home at s u q option1 option2 payload a e = rw e

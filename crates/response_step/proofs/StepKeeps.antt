@@ -13,7 +13,7 @@ use Rattle.negotiation.specs.declared.Negotiated.{Negotiated}
 use Rattle.negotiation.specs.declared.Negotiated.the-variants as agreed
 use Rattle.negotiation.specs.declared.Chunk.{Chunk}
 use Rattle.negotiation.specs.declared.Chunk.the-variants as chunk
-use Rattle.block_state.specs.declared.Config.{Config}
+use Rattle.config.specs.declared.Config.{Config}
 use Rattle.block_state.specs.declared.BlockState.{BlockState}
 use Rattle.block_state.specs.declared.Answer.the-variants.{Plain, Whole, Refused}
 use Rattle.block_state.specs.Message.{Response}
@@ -44,7 +44,7 @@ module _ (c : Config) where
   unfolding stepResponse onReply
   response-keeps s d r k f h =
       on-test (Keeps c (c .response)) (r .own) (λ _. as-it-was c (c .response) s d Plain f h)
-      (λ _. reply-keeps (negotiated (recordedBlock (s .recorded)) (r .bare) (length (r .payload)) (c .limit)))
+      (λ _. reply-keeps (negotiated c (recordedBlock (s .recorded)) (r .bare) (length (r .payload))))
     where
       reply-keeps : (g : Negotiated) → Keeps c (c .response) (onReply c s d (r .head) (r .payload) g)
       reply-keeps (agreed.Refused n) = as-it-was c (c .response) s d (Refused n) f h

@@ -13,7 +13,7 @@ use Rattle.negotiation.specs.declared.Negotiated.{Negotiated}
 use Rattle.negotiation.specs.declared.Negotiated.the-variants as agreed
 use Rattle.negotiation.specs.declared.Chunk.{Chunk}
 use Rattle.negotiation.specs.declared.Chunk.the-variants as chunk
-use Rattle.block_state.specs.declared.Config.{Config}
+use Rattle.config.specs.declared.Config.{Config}
 use Rattle.block_state.specs.declared.BlockState.{BlockState}
 use Rattle.block_state.specs.declared.Answer.the-variants.{Plain, Whole, First, Refused}
 use Rattle.block_state.specs.Message.{Response}
@@ -45,7 +45,7 @@ module _ (c : Config) (s : BlockState) (d : List ℕ) (r : Response) where
   unfolding stepResponse
   response-own h = rw h
 
-  module _ (not-own : r .own ≡ false) (reply : Negotiated) (en : reply ≡ negotiated (recordedBlock (s .recorded)) (r .bare) (length (r .payload)) (c .limit)) where
+  module _ (not-own : r .own ≡ false) (reply : Negotiated) (en : reply ≡ negotiated c (recordedBlock (s .recorded)) (r .bare) (length (r .payload))) where
     replies : stepResponse c s d r ≡ onReply c s d (r .head) (r .payload) reply
     unfolding stepResponse
     replies = rw (not-own, ← en)

@@ -12,7 +12,7 @@ use Rattle.negotiation.specs.declared.Negotiated.{Negotiated}
 use Rattle.negotiation.specs.declared.Negotiated.the-variants as agreed
 use Rattle.negotiation.specs.declared.Chunk.{Chunk}
 use Rattle.negotiation.specs.declared.Chunk.the-variants as chunk
-use Rattle.block_state.specs.declared.Config.{Config}
+use Rattle.config.specs.declared.Config.{Config}
 use Rattle.block_state.specs.declared.BlockState.{BlockState}
 use Rattle.block_state.specs.declared.Part.{Part}
 use Rattle.block_state.specs.declared.Answer.the-variants.{Plain, Whole, First, Refused}
@@ -41,4 +41,4 @@ onReply c s d head payload (agreed.Block b) = chunked c s d head payload (chunkO
 unfoldable pub stepResponse : Config → BlockState → List ℕ → Response → Left
 stepResponse c s d r =
     cond (r .own) (left s d Plain)
-    (onReply c s d (r .head) (r .payload) (negotiated (recordedBlock (s .recorded)) (r .bare) (length (r .payload)) (c .limit)))
+    (onReply c s d (r .head) (r .payload) (negotiated c (recordedBlock (s .recorded)) (r .bare) (length (r .payload))))

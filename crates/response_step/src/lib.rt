@@ -2,11 +2,12 @@
 use block_state::Answer;
 use block_state::BlockState;
 use block_state::Cached;
-use block_state::Config;
 use block_state::Part;
+use block_state::ResponseNumbers;
 use block_state::Stepped;
 use block_state::state;
 use block_value::BlockValue;
+use config::Config;
 use negotiation::Chunk;
 use negotiation::Negotiated;
 ghost use mathlib.Core.Path.{_≡_};
@@ -95,23 +96,22 @@ pub fn step_response<'a>(
     config: Config,
     state: BlockState,
     piece: &mut [u8],
-    bare: usize,
-    own: bool,
+    numbers: ResponseNumbers,
     head: &'a [u8],
     payload: &'a [u8],
 ) -> Stepped
     requires { ⌜ (length (now piece) ≡ config .response) × (length (now piece) < 2 ^ 32) × (length (now head) ≤ 128) ⌝ }
-    ensures { λ r. ⌜ left (r .state) (now (piece .exit)) (r .answer) ≡ stepResponse config state (now (piece .entry)) (replying bare own (now (head .entry)) (now (payload .entry))) ⌝ }
+    ensures { λ r. ⌜ left (r .state) (now (piece .exit)) (r .answer) ≡ stepResponse config state (now (piece .entry)) (replying numbers (now (head .entry)) (now (payload .entry))) ⌝ }
 {
-    if own {
+    if numbers.own {
         return state::answered(state, Answer::Plain);
     }
     let recorded = state::recorded_block(state.recorded);
     match negotiation::negotiate_block_size_if_necessary(
+        config,
         recorded,
-        bare,
+        numbers.bare,
         payload.len(),
-        config.limit,
     ) {
         Negotiated::Refused(n) => state::refused(state, n),
         Negotiated::NoBlock => state::answered(state, Answer::Plain),

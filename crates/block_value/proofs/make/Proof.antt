@@ -7,42 +7,30 @@ use Rattle.block_value.proofs.make.Statement.{statement}
 use Rattle.block_value.proofs.make.Tie as tie
 
 returns : tie.Need-returns
-returns c = sym (made-zero _ _ _ (c .if1 .taken))
-
-largest-power-of-2-not-in-excess-requires : tie.Need-largest-power-of-2-not-in-excess-requires
-largest-power-of-2-not-in-excess-requires c κs = search needs
+returns c = sym (made-zero _ _ _ _ (c .if1 .taken))
 
 returns-2 : tie.Need-returns-2
-returns-2 c = sym (made-large _ _ _ (c .before .before .if1 .left) (omega arith))
+returns-2 c = sym (made-large _ _ _ _ (c .before .before .if1 .left) (omega arith))
 
 returns-3 : tie.Need-returns-3
-returns-3 c = sym (made-far _ _ _ (c .before .before .before .if1 .left) (omega arith) (c .if3 .taken))
-
-cast-t6 : tie.Need-cast-t6
-cast-t6 c = search needs
+returns-3 c = sym (made-far _ _ _ _ (c .before .before .before .if1 .left) (omega arith) (c .if3 .taken))
 
 returns-4 : tie.Need-returns-4
-returns-4 c = sym (made-well _ _ _ (c .before .before .before .before .if1 .left) 0 (omega arith) (omega arith) (omega arith))
-
-cast-t8 : tie.Need-cast-t8
-cast-t8 c = search needs
-
-cast-t10 : tie.Need-cast-t10
-cast-t10 c = search needs
+returns-4 c = sym (made-well _ _ _ _ (c .before .before .before .before .if1 .left) 0 (omega arith) (omega arith) (omega arith))
 
 returns-5 : tie.Need-returns-5
-returns-5 c = sym (made-well _ _ _ (c .before .before .before .before .if1 .left) (c .before .before .before .largest-power-of-2-not-in-excess .result - 4) (omega arith) (omega arith) (omega arith))
+returns-5 c = sym (made-well _ _ _ _ (c .before .before .before .before .if1 .left) (c .before .before .before .largest-power-of-2-not-in-excess .result - 4) (omega arith) (omega arith) (omega arith))
 
 pub make-spec : {M : Type 1} → statement M
 make-spec =
     tie.close
     (tie.spec
     returns
-    largest-power-of-2-not-in-excess-requires
+    (λ c κs. search needs)
     returns-2
     returns-3
-    cast-t6
+    (λ c. search needs)
     returns-4
-    cast-t8
-    cast-t10
+    (λ c. search needs)
+    (λ c. search needs)
     returns-5)

@@ -3,14 +3,8 @@ use borrow.Author.Needs.{needs}
 use Rattle.block_value.proofs.size.Statement.{statement}
 use Rattle.block_value.proofs.size.Tie as tie
 
-cast-result : tie.Need-cast-result
-cast-result c = search needs
-
-shl-result : tie.Need-shl-result
-shl-result c = search needs
-
 returns : tie.Need-returns
 returns c = size-shifted (c .args .block .«size_exponent»)
 
 pub size-spec : {M : Type 1} → statement M
-size-spec = tie.close (tie.spec cast-result shl-result returns)
+size-spec = tie.close (tie.spec (λ c. search needs) (λ c. search needs) returns)

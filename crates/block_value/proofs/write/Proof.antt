@@ -5,27 +5,15 @@ use borrow.Author.Needs.{needs}
 use Rattle.block_value.proofs.write.Statement.{statement}
 use Rattle.block_value.proofs.write.Tie as tie
 
-pack-requires : tie.Need-pack-requires
-pack-requires c κs = search needs
-
 returns : tie.Need-returns
 returns c = sym (rw (← (c .before .pack .ensures .0)) (ap inTwo (short-0 _ (c .if1 .taken))))
 
-cast-t5 : tie.Need-cast-t5
-cast-t5 c = search needs
-
 returns-2 : tie.Need-returns-2
 returns-2 c = sym (rw (← (c .before .before .pack .ensures .0)) (ap inTwo (short-1 _ (c .before .if1 .left) (c .if2 .taken))))
-
-cast-t8 : tie.Need-cast-t8
-cast-t8 c = search needs
-
-cast-t10 : tie.Need-cast-t10
-cast-t10 c = search needs
 
 returns-3 : tie.Need-returns-3
 returns-3 c = sym (rw (← (c .before .before .pack .ensures .0)) (ap inTwo (short-2 _ (c .before .if1 .left) (c .if2 .left))))
 
 pub write-spec : {M : Type 1} → statement M
 write-spec =
-    tie.close (tie.spec pack-requires returns cast-t5 returns-2 cast-t8 cast-t10 returns-3)
+    tie.close (tie.spec (λ c κs. search needs) returns (λ c. search needs) returns-2 (λ c. search needs) (λ c. search needs) returns-3)

@@ -4,14 +4,8 @@ use borrow.Author.Needs.{needs}
 use Rattle.handler_c.proofs.block_handler_sent.Statement.{statement}
 use Rattle.handler_c.proofs.block_handler_sent.Tie as tie
 
-sent-in-requires : tie.Need-sent-in-requires
-sent-in-requires c κs = search needs
-
-found-in-requires : tie.Need-found-in-requires
-found-in-requires c κs = search needs
-
 returns : tie.Need-returns
 returns c = c .found-in .ensures ∙ ap (λ s. foundIn s (c .before .before .args .payload) (c .before .before .args .payload)) (c .before .sent-in .ensures)
 
 pub block-handler-sent-spec : {M : Type 1} → statement M
-block-handler-sent-spec = tie.close (tie.spec sent-in-requires found-in-requires returns)
+block-handler-sent-spec = tie.close (tie.spec (λ c κs. search needs) (λ c κs. search needs) returns)

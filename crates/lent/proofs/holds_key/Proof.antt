@@ -5,12 +5,6 @@ use borrow.Author.Needs.{needs}
 use Rattle.lent.proofs.holds_key.Statement.{statement}
 use Rattle.lent.proofs.holds_key.Tie as tie
 
-size-requires : tie.Need-size-requires
-size-requires c κs = search needs
-
-same-key-requires : tie.Need-same-key-requires
-same-key-requires c κs = search needs
-
 returns : tie.Need-returns
 returns c = sym (held-as _ _ _ (c .before .before .before .before .if1 .taken) (same-stored-as _ _ _ _ (c .before .size .ensures .0) (c .same-key .ensures)))
 
@@ -18,4 +12,4 @@ returns-2 : tie.Need-returns-2
 returns-2 c = sym (not-held _ _ (c .if1 .left))
 
 pub holds-key-spec : {M : Type 1} → statement M
-holds-key-spec = tie.close (tie.spec size-requires same-key-requires returns returns-2)
+holds-key-spec = tie.close (tie.spec (λ c κs. search needs) (λ c κs. search needs) returns returns-2)

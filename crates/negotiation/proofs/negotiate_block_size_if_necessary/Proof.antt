@@ -12,29 +12,14 @@ returns c = sym (no-room _ _ _ _ (omega arith))
 returns-2 : tie.Need-returns-2
 returns-2 c = sym (no-room _ _ _ _ (omega arith))
 
-enum-told : tie.Need-enum-told
-enum-told c = search needs
-
 returns-3 : tie.Need-returns-3
-returns-3 c = sym (with-room _ _ _ _ _ (omega arith) (omega arith) ∙ absent-fits _ _ _ (c .before .enum-told .given .1) (c .if3 .taken))
-
-make-requires : tie.Need-make-requires
-make-requires c κs = search needs
-
-reply-of-requires : tie.Need-reply-of-requires
-reply-of-requires c κs = search needs
-
-enum-known-request-block : tie.Need-enum-known-request-block
-enum-known-request-block c = search needs
-
-reply-to-requires : tie.Need-reply-to-requires
-reply-to-requires c κs = search needs
+returns-3 c = sym (with-room _ _ _ _ _ (omega arith) (omega arith) ∙ absent-fits _ _ _ _ (c .before .enum-told .given .1) (c .if3 .taken))
 
 returns-4 : tie.Need-returns-4
-returns-4 c = c .reply-of .ensures ∙ ap replyOf (c .before .make .ensures) ∙ sym (with-room _ _ _ _ _ (omega arith) (omega arith) ∙ absent-large _ _ _ (c .before .before .before .enum-told .given .1) (c .before .before .if3 .left))
+returns-4 c = c .reply-of .ensures ∙ ap replyOf (c .before .make .ensures) ∙ sym (with-room _ _ _ _ _ (omega arith) (omega arith) ∙ absent-large _ _ _ _ (c .before .before .before .enum-told .given .1) (c .before .before .if3 .left))
 
 returns-5 : tie.Need-returns-5
-returns-5 c = c .reply-to .ensures ∙ sym (with-room _ _ _ _ _ (omega arith) (omega arith) ∙ given-at _ _ _ _ (c .before .before .request-block .given .1))
+returns-5 c = c .reply-to .ensures ∙ sym (with-room _ _ _ _ _ (omega arith) (omega arith) ∙ given-at _ _ _ _ _ (c .before .before .request-block .given .1))
 
 pub negotiate-block-size-if-necessary-spec : {M : Type 1} → statement M
 negotiate-block-size-if-necessary-spec =
@@ -42,11 +27,11 @@ negotiate-block-size-if-necessary-spec =
     (tie.spec
     returns
     returns-2
-    enum-told
+    (λ c. search needs)
     returns-3
-    make-requires
-    reply-of-requires
-    enum-known-request-block
-    reply-to-requires
+    (λ c κs. search needs)
+    (λ c κs. search needs)
+    (λ c. search needs)
+    (λ c κs. search needs)
     returns-4
     returns-5)

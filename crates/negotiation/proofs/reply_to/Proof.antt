@@ -10,12 +10,6 @@ use Rattle.negotiation.proofs.reply_to.Tie as tie
 small : (c : tie.After-size) → c .size .result ≤ 2048
 small c = rw (c .size .ensures) (size-most (c .before .args .block .«size_exponent»))
 
-size-requires : tie.Need-size-requires
-size-requires c κs = search needs
-
-start-requires : tie.Need-start-requires
-start-requires c κs = search needs
-
 reply-at-requires : tie.Need-reply-at-requires
 reply-at-requires c κs = (c .before .start .ensures .1, small (c .before .before))
 
@@ -40,8 +34,8 @@ pub reply-to-spec : {M : Type 1} → statement M
 reply-to-spec =
     tie.close
     (tie.spec
-    size-requires
-    start-requires
+    (λ c κs. search needs)
+    (λ c κs. search needs)
     reply-at-requires
     returns
     reply-at-requires-2

@@ -10,23 +10,16 @@ use borrow.Author.Needs.{needs}
 use Rattle.response_step.proofs.cache_in.Statement.{statement}
 use Rattle.response_step.proofs.cache_in.Tie as tie
 
-copy-in-requires : tie.Need-copy-in-requires
-copy-in-requires c κs = search needs
-
-copy-in-requires-2 : tie.Need-copy-in-requires-2
-copy-in-requires-2 c κs = search needs
-
-same-length : tie.Need-same-length
-same-length c = search needs
-
 returns : tie.Need-returns
 returns c =
-    let s = c .before .before .before .before .before .before .before .before .before .before .before in
+    let second = c .before .before in
+    let first = second .before .before .before .before in
+    let s = first .before .before .before .before .before in
     let h = s .args .head .now in
     let p = s .args .payload .now in
     let start : length h ≡ 0 + length h = sym (zero-add (length h)) in
-    c .before .before .copy-in2 .ensures ∙ ap (λ (m : List ℕ). patch m (length h) p) (c .before .before .before .before .before .before .copy-in .ensures)
+    second .copy-in2 .ensures ∙ ap (λ (m : List ℕ). patch m (length h) p) (first .copy-in .ensures)
     ∙ ap (λ (i : ℕ). patch (patch (s .args .piece .now) 0 h) i p) start ∙ patch-after _ 0 h p (omega arith)
 
 pub cache-in-spec : {M : Type 1} → statement M
-cache-in-spec = tie.close (tie.spec copy-in-requires copy-in-requires-2 same-length returns)
+cache-in-spec = tie.close (tie.spec (λ c κs. search needs) (λ c κs. search needs) (λ c. search needs) returns)

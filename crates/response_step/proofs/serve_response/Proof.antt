@@ -7,50 +7,39 @@ use borrow.Author.Needs.{needs}
 use Rattle.response_step.proofs.serve_response.Statement.{statement}
 use Rattle.response_step.proofs.serve_response.Tie as tie
 
-chunk-of-requires : tie.Need-chunk-of-requires
-chunk-of-requires c κs = search needs
-
-enum-known-n : tie.Need-enum-known-n
-enum-known-n c = search needs
-
-refused-requires : tie.Need-refused-requires
-refused-requires c κs = search needs
-
-enum-known-reply : tie.Need-enum-known-reply
-enum-known-reply c = search needs
-
-cache-response-requires : tie.Need-cache-response-requires
-cache-response-requires c κs = search needs
-
-same-length : tie.Need-same-length
-same-length c = search needs
-
 returns : tie.Need-returns
 returns c =
-    let a = c .before .before .before .before .before .before .before .before .before .before .before .before .args in
-    c .before .before .cache-response .ensures
-    ∙ ap (λ (x : Chunk). chunked (a .config) (a .state) (a .piece .now) (a .head .now) (a .payload .now) x) (sym (c .before .before .before .before .before .before .reply .given .1) ∙ c .before .before .before .before .before .before .before .before .chunk-of .ensures)
-
-answered-requires : tie.Need-answered-requires
-answered-requires c κs = search needs
+    let cached = c .before .before in
+    let told = cached .before .before .before .before in
+    let cut = told .before .before in
+    let a = cut .before .before .before .before .args in
+    cached .cache-response .ensures
+    ∙ ap (λ (x : Chunk). chunked (a .config) (a .state) (a .piece .now) (a .head .now) (a .payload .now) x) (sym (told .reply .given .1) ∙ cut .chunk-of .ensures)
 
 returns-2 : tie.Need-returns-2
-returns-2 c = returned _ _ _ _ (c .refused .ensures) ∙ sym (chunked-refused _ _ _ _ _ _ _ (sym (c .before .before .before .before .chunk-of .ensures) ∙ c .before .before .n .given .1))
+returns-2 c =
+    let told = c .before .before in
+    let cut = told .before .before in
+    returned _ _ _ _ (c .refused .ensures) ∙ sym (chunked-refused _ _ _ _ _ _ _ (sym (cut .chunk-of .ensures) ∙ told .n .given .1))
 
 returns-3 : tie.Need-returns-3
-returns-3 c = returned _ _ _ _ (c .answered .ensures) ∙ sym (chunked-whole _ _ _ _ _ _ _ _ _ (sym (c .before .before .before .before .before .chunk-of .ensures) ∙ c .before .before .before .reply .given .1) (c .before .if1 .left))
+returns-3 c =
+    let last = c .before in
+    let told = last .before .before in
+    let cut = told .before .before in
+    returned _ _ _ _ (c .answered .ensures) ∙ sym (chunked-whole _ _ _ _ _ _ _ _ _ (sym (cut .chunk-of .ensures) ∙ told .reply .given .1) (last .if1 .left))
 
 pub serve-response-spec : {M : Type 1} → statement M
 serve-response-spec =
     tie.close
     (tie.spec
-    chunk-of-requires
-    enum-known-n
-    refused-requires
-    enum-known-reply
-    cache-response-requires
-    same-length
+    (λ c κs. search needs)
+    (λ c. search needs)
+    (λ c κs. search needs)
+    (λ c. search needs)
+    (λ c κs. search needs)
+    (λ c. search needs)
     returns
-    answered-requires
+    (λ c κs. search needs)
     returns-2
     returns-3)

@@ -27,9 +27,6 @@ entry-is c t has =
 holds : (c : tie.After-start-from) → let s = c .before .before .before .before .before .before .before .before in c .start-from .result .state .assembled .len ≤ s .args .config .upload
 holds c = let s = c .before .before .before .before .before .before .before .before in rw (entry-is c (s .pre .0) (s .pre .1)) (placed s .holds (s .pre .1 .0 .1))
 
-swept-entry-requires : tie.Need-swept-entry-requires
-swept-entry-requires c κs = search needs
-
 start-from-requires : tie.Need-start-from-requires
 start-from-requires c κs = placed (c .before .before .before .before .before .before .before) .named
 
@@ -42,12 +39,6 @@ mul-away c = omega (arith, placed (c .before .before .before .before .before .be
 add-end : tie.Need-add-end
 add-end c = omega (arith, placed (c .before .before .before .before .before .before .before .before .before .before .before .before))
 
-sub-step-request : tie.Need-sub-step-request
-sub-step-request c = search needs
-
-part-step-request-start : tie.Need-part-step-request-start
-part-step-request-start c = search needs
-
 part-step-request-end : tie.Need-part-step-request-end
 part-step-request-end c = omega (arith, placed (c .before .before .before .before .before .before .before .before .before .before .before .before))
 
@@ -57,12 +48,6 @@ step-request-requires c κs =
     let p = placed s in
     let long = lent-length (s .args .upload .now) (s .args .config .upload) (s .args .i) (p .up) in
     record { size = long; small = omega arith; holds = rw long (holds (c .before .before .before .before .before)); home = omega arith; away = omega arith }
-
-touched-requires : tie.Need-touched-requires
-touched-requires c κs = search needs
-
-same-length : tie.Need-same-length
-same-length c = search needs
 
 returns : tie.Need-returns
 returns c =
@@ -80,15 +65,15 @@ pub request-at-spec : {M : Type 1} → statement M
 request-at-spec =
     tie.close
     (tie.spec
-    swept-entry-requires
+    (λ c κs. search needs)
     start-from-requires
     mul-home
     mul-away
     add-end
-    sub-step-request
-    part-step-request-start
+    (λ c. search needs)
+    (λ c. search needs)
     part-step-request-end
     step-request-requires
-    touched-requires
-    same-length
+    (λ c κs. search needs)
+    (λ c. search needs)
     returns)

@@ -22,9 +22,6 @@ entry-is c t has =
     c .start-from .ensures
     ∙ rw (c .before .swept-entry .ensures, seen-entry _ _ _ _ _ _ _ _ _ _ t has) (opened-swept _ _ _ _ _ (at-place _ t _ _ _ _ _ _ _ _ (has .1) .is))
 
-swept-entry-requires : tie.Need-swept-entry-requires
-swept-entry-requires c κs = search needs
-
 start-from-requires : tie.Need-start-from-requires
 start-from-requires c κs = placed (c .before .before .before .before .before .before) .named
 
@@ -33,12 +30,6 @@ mul-from c = omega (arith, placed (c .before .before .before .before .before .be
 
 add-end : tie.Need-add-end
 add-end c = omega (arith, placed (c .before .before .before .before .before .before .before .before .before .before))
-
-sub-step-response : tie.Need-sub-step-response
-sub-step-response c = search needs
-
-part-step-response-start : tie.Need-part-step-response-start
-part-step-response-start c = search needs
 
 part-step-response-end : tie.Need-part-step-response-end
 part-step-response-end c = omega (arith, placed (c .before .before .before .before .before .before .before .before .before .before))
@@ -49,12 +40,6 @@ step-response-requires c κs =
     let p = placed s in
     let long = lent-length (s .args .response .now) (s .args .config .response) (s .args .i) (p .down) in
     (long, omega arith, p .headed)
-
-touched-requires : tie.Need-touched-requires
-touched-requires c κs = search needs
-
-same-length : tie.Need-same-length
-same-length c = search needs
 
 returns : tie.Need-returns
 returns c =
@@ -72,14 +57,14 @@ pub response-at-spec : {M : Type 1} → statement M
 response-at-spec =
     tie.close
     (tie.spec
-    swept-entry-requires
+    (λ c κs. search needs)
     start-from-requires
     mul-from
     add-end
-    sub-step-response
-    part-step-response-start
+    (λ c. search needs)
+    (λ c. search needs)
     part-step-response-end
     step-response-requires
-    touched-requires
-    same-length
+    (λ c κs. search needs)
+    (λ c. search needs)
     returns)

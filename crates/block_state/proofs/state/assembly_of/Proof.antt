@@ -6,11 +6,8 @@ use Rattle.block_state.proofs.state.assembly_of.Tie as tie
 returns : tie.Need-returns
 returns c = rw (c .if1 .taken)
 
-cast-t4 : tie.Need-cast-t4
-cast-t4 c = search needs
-
 returns-2 : tie.Need-returns-2
 returns-2 c = rw (ne-eqb (c .before .args .len) 0 (c .if1 .left))
 
 pub assembly-of-spec : {M : Type 1} → statement M
-assembly-of-spec = tie.close (tie.spec returns cast-t4 returns-2)
+assembly-of-spec = tie.close (tie.spec returns (λ c. search needs) returns-2)

@@ -4,12 +4,6 @@ use borrow.Author.Needs.{needs}
 use Rattle.block_state.proofs.state.recording_of.Statement.{statement}
 use Rattle.block_state.proofs.state.recording_of.Tie as tie
 
-enum-told : tie.Need-enum-told
-enum-told c = search needs
-
-enum-known-block : tie.Need-enum-known-block
-enum-known-block c = search needs
-
 returns : tie.Need-returns
 returns c = sym (ap recording (c .enum-told .given .1))
 
@@ -17,4 +11,4 @@ returns-2 : tie.Need-returns-2
 returns-2 c = sym (ap recording (c .before .block .given .1))
 
 pub recording-of-spec : {M : Type 1} → statement M
-recording-of-spec = tie.close (tie.spec enum-told enum-known-block returns returns-2)
+recording-of-spec = tie.close (tie.spec (λ c. search needs) (λ c. search needs) returns returns-2)

@@ -3,11 +3,5 @@ use borrow.Author.Needs.{needs}
 use Rattle.lent.proofs.steps.touched.Statement.{statement}
 use Rattle.lent.proofs.steps.touched.Tie as tie
 
-reply-of-requires : tie.Need-reply-of-requires
-reply-of-requires c κs = search needs
-
-returns : tie.Need-returns
-returns c = search needs
-
 pub touched-spec : {M : Type 1} → statement M
-touched-spec = tie.close (tie.spec reply-of-requires returns)
+touched-spec = tie.close (tie.spec (λ c κs. search needs) (λ c. search needs))
