@@ -1,10 +1,11 @@
 // The checks 1, 2 and 3 before a step, and the key's place.
-use config::Config;
+use block_state::Config;
+use places::Place;
 use places::Sight;
 ghost use mathlib.Core.Path.{_≡_};
 ghost use Prim.Native.Nat.{_≤_};
 ghost use Rattle.judge.specs.Limits.{between, configOk, memoriesOk};
-ghost use Rattle.judge.specs.Verdict.{messageOk, verdictBy};
+ghost use Rattle.judge.specs.Verdict.{messageOk, verdictAt, verdictBy};
 
 // What the checks before a step come to.
 pub enum Verdict {
@@ -13,25 +14,28 @@ pub enum Verdict {
     Place(usize),
 }
 
+// The lengths of both memories, and of the message: without payload, of its payload, and of its head (0 for a request).
+pub struct Lengths {
+    pub upload: usize,
+    pub response: usize,
+    pub bare: usize,
+    pub payload: usize,
+    pub head: usize,
+}
+
 fn within(least: u64, n: u64, most: u64) -> bool
     ensures { λ r. ⌜ r ≡ between least n most ⌝ }
 {
     (least <= n) & (n <= most)
 }
 
-fn wide(n: usize) -> u64
-    ensures { λ r. ⌜ r ≡ n ⌝ }
-{
-    n as u64
-}
-
 fn config_ok(config: Config) -> bool
     ensures { λ r. ⌜ r ≡ configOk config ⌝ }
 {
-    within(1, wide(config.limit), 65535)
+    within(1, wide::u64_of_usize(config.limit), 65535)
         & within(1, config.lifetime, 4294967295)
-        & within(16, wide(config.upload), 65536)
-        & within(16, wide(config.response), 65536)
+        & within(16, wide::u64_of_usize(config.upload), 65536)
+        & within(16, wide::u64_of_usize(config.response), 65536)
 }
 
 fn memories_ok(config: Config, u: usize, v: usize) -> bool
@@ -47,38 +51,42 @@ fn message_ok(bare: usize, payload: usize, head: usize) -> bool
     (bare <= 65535) & (payload <= 65535) & (head <= 128)
 }
 
-// Judges a call by what is seen of the table, and by numbers: the lengths of the memories, and those of the message (a request has a head of 0).
-pub fn judge(
-    config: Config,
-    sight: Sight,
-    u: usize,
-    v: usize,
-    time: u64,
-    bare: usize,
-    payload: usize,
-    head: usize,
-) -> Verdict
-    ensures { λ r. ⌜ r ≡ verdictBy config sight u v time bare payload head ⌝ }
+// What a place comes to: refusal 1 comes before the clock, refusal 3 after it.
+fn verdict_at(early: bool, place: Place) -> Verdict
+    ensures { λ r. ⌜ r ≡ verdictAt early place ⌝ }
+{
+    match place {
+        Place::OffLimits => Verdict::Refused(1),
+        Place::None => {
+            if early {
+                Verdict::Refused(2)
+            } else {
+                Verdict::Refused(3)
+            }
+        }
+        Place::At(i) => {
+            if early {
+                Verdict::Refused(2)
+            } else {
+                Verdict::Place(i)
+            }
+        }
+    }
+}
+
+// Judges a call by what is seen of the table, and by numbers.
+pub fn judge(config: Config, sight: Sight, time: u64, lengths: Lengths) -> Verdict
+    ensures { λ r. ⌜ r ≡ verdictBy config sight time lengths ⌝ }
 {
     if !config_ok(config) {
         return Verdict::Refused(1);
     }
-    if !memories_ok(config, u, v) {
+    if !memories_ok(config, lengths.upload, lengths.response) {
         return Verdict::Refused(1);
     }
-    if !message_ok(bare, payload, head) {
+    if !message_ok(lengths.bare, lengths.payload, lengths.head) {
         return Verdict::Refused(1);
     }
-    let i = sight.place;
-    // The key or the table is off its limits.
-    if i == 17 {
-        return Verdict::Refused(1);
-    }
-    if time < sight.clock {
-        return Verdict::Refused(2);
-    }
-    if 16 <= i {
-        return Verdict::Refused(3);
-    }
-    Verdict::Place(i)
+    let place = sight.place;
+    verdict_at(time < sight.clock, place)
 }

@@ -1,5 +1,5 @@
 -- The key's place in a table, by the cases of the code. Assumes nothing.
-use mathlib.Core.Path.{_≡_, sym, _∙_}
+use mathlib.Core.Path.{_≡_, sym, ap, _∙_}
 use mathlib.Core.List.{List}
 use mathlib.Core.Bool.{Bool, true, false, cond}
 use Prim.Native.Nat.{ℕ, _<_}
@@ -13,7 +13,9 @@ use Rattle.block_table.specs.declared.Table.{Table}
 use Rattle.keys.specs.Lists.{find, all}
 use Rattle.entries.specs.Entries.{entryOk}
 use Rattle.block_table.specs.Table.{distinct, tableOk, sweep}
-use Rattle.places.specs.Places.{place}
+use Rattle.places.specs.declared.Place.{Place}
+use Rattle.places.specs.declared.Place.the-variants.{OffLimits}
+use Rattle.places.specs.Places.{place, standing, placeOf}
 use Rattle.entries.specs.Quick.{holdsLive, notLive}
 use Rattle.block_table.specs.Quick.{tagsFrom}
 use Rattle.block_table.proofs.Quick.{tags-length, distinct-by}
@@ -22,22 +24,26 @@ use Rattle.places.proofs.Unswept.{place-kept, place-new}
 use Rattle.places.proofs.Tagged.{tagged-holds, tagged-none}
 
 module _ (c : Config) (t : Table) (k : List ℕ) (lifetime time : ℕ) where
-  abbrev there : ℕ
-  there = place k (sweep lifetime time (t .entries))
+  abbrev there : Place
+  there = placeOf k (sweep lifetime time (t .entries))
 
-  pub off-each : all (entryOk c (t .clock)) (t .entries) ≡ false → cond (tableOk c t) there 17 ≡ 17
+  abbrev found : Place
+  found = cond (tableOk c t) there OffLimits
+
+  pub off-each : all (entryOk c (t .clock)) (t .entries) ≡ false → found ≡ OffLimits
   unfolding tableOk
   off-each h = rw h
 
-  pub by-bytes : (b : Bool) → all (entryOk c (t .clock)) (t .entries) ≡ true → distinct (t .entries) ≡ b → cond (tableOk c t) there 17 ≡ cond b there 17
+  pub by-bytes : (b : Bool) → all (entryOk c (t .clock)) (t .entries) ≡ true → distinct (t .entries) ≡ b → found ≡ cond b there OffLimits
   unfolding tableOk
   by-bytes b h d = rw (h, d)
 
-  pub by-tags : length (t .entries) ≡ 16 → all (entryOk c (t .clock)) (t .entries) ≡ true
-      → eqb (pairs (tagsFrom 0 (t .entries)) (tagsFrom 0 (t .entries))) 16 ≡ true → cond (tableOk c t) there 17 ≡ there
-  by-tags len h apart =
+  by-tags : length (t .entries) ≡ 16 → all (entryOk c (t .clock)) (t .entries) ≡ true
+      → eqb (pairs (tagsFrom 0 (t .entries)) (tagsFrom 0 (t .entries))) 16 ≡ true → (i : ℕ) → place k (sweep lifetime time (t .entries)) ≡ i → standing i ≡ found
+  unfolding placeOf
+  by-tags len h apart i is =
       let told = told-apart (tagsFrom 0 (t .entries)) (tags-length 0 (t .entries) ∙ len) apart in
-      by-bytes true h (distinct-by c (t .clock) (t .entries) 0 h told)
+      sym (by-bytes true h (distinct-by c (t .clock) (t .entries) 0 h told) ∙ ap (λ (z : ℕ). standing z) is)
 
   -- by the first entry with the key's own tag
   module _ (row : List ℕ) (own i : ℕ) (len : length (t .entries) ≡ 16) (h : all (entryOk c (t .clock)) (t .entries) ≡ true) (tags : row ≡ tagsFrom 0 (t .entries))
@@ -48,12 +54,13 @@ module _ (c : Config) (t : Table) (k : List ℕ) (lifetime time : ℕ) where
     at-tag : i ≡ find (λ x. eqb x (folded (digestOf k))) (tagsFrom 0 (t .entries))
     at-tag = rw (tags, tag) at first
 
-    pub by-own : (held : Bool) → held ≡ holdsLive lifetime time k (getD (t .entries) i nil) → held ≡ true → i < 16 → i ≡ cond (tableOk c t) there 17
+    pub by-own : (held : Bool) → held ≡ holdsLive lifetime time k (getD (t .entries) i nil) → held ≡ true → i < 16 → standing i ≡ found
     by-own held e y below =
         let f = tagged-holds c (t .clock) lifetime time k (t .entries) i h at-tag (omega arith) (sym e ∙ y) in
-        sym (by-tags len h told ∙ place-kept k lifetime time (t .entries) i f below)
+        by-tags len h told i (place-kept k lifetime time (t .entries) i f below)
 
-    pub by-none : (i < 16 → holdsLive lifetime time k (getD (t .entries) i nil) ≡ false) → find (notLive lifetime time) (t .entries) ≡ cond (tableOk c t) there 17
+    pub by-none : (i < 16 → holdsLive lifetime time k (getD (t .entries) i nil) ≡ false) → standing (find (notLive lifetime time) (t .entries)) ≡ found
     by-none n =
-        let f = tagged-none c (t .clock) lifetime time k (t .entries) i h at-tag (told-apart (tagsFrom 0 (t .entries)) (tags-length 0 (t .entries) ∙ len) told) (λ below. n (omega arith)) in
-        sym (by-tags len h told ∙ place-new k lifetime time (t .entries) 16 (sym (f ∙ len)) (omega arith))
+        let apart = told-apart (tagsFrom 0 (t .entries)) (tags-length 0 (t .entries) ∙ len) told in
+        let f = tagged-none c (t .clock) lifetime time k (t .entries) i h at-tag apart (λ below. n (omega arith)) in
+        by-tags len h told _ (place-new k lifetime time (t .entries) 16 (sym (f ∙ len)) (omega arith))

@@ -3,4 +3,5 @@ pub mod Unswept
 pub mod Tagged
 pub mod Cases
 pub mod Looks
+pub mod Sighted
 pub mod Put

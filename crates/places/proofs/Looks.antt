@@ -23,8 +23,10 @@ use Rattle.block_table.specs.Quick.{tagsFrom}
 use Rattle.block_table.proofs.Turns.{nil, getD-any, freed-go, freed-end}
 use Rattle.places.specs.declared.Seen.{Seen}
 use Rattle.places.specs.declared.Sight.{Sight}
-use Rattle.places.specs.Places.{place}
-use Rattle.places.specs.Sight.{placeIn, indexOf, sightAt, seenNext, quickPlace}
+use Rattle.places.specs.declared.Place.{Place}
+use Rattle.places.specs.declared.Place.the-variants.{OffLimits}
+use Rattle.places.specs.Places.{standing, placeOf}
+use Rattle.places.specs.Sight.{placeIn, index, indexOf, sightAt, seenNext, quickPlace, settled}
 use Rattle.places.proofs.Cases.{off-each, by-bytes, by-own, by-none}
 
 not-not : (b : Bool) → not (not b) ≡ b
@@ -60,6 +62,13 @@ module _ (c : Config) (clock time : ℕ) (l : List Entry) (named : Bool) where
     pub most : s .free ≤ 16
     pub long : all sized (drop i l) ≡ all sized l
 
+  -- what is seen of them all
+  pub record Ended (s : Seen) : Type 0 where
+    pub ok : s .ok ≡ (named && all good l)
+    pub freed : s .freed ≡ not (all fresh l)
+    pub free : s .free ≡ find gone l
+    pub long : all sized l ≡ true
+
   pub walk-starts : (b : Bool) → b ≡ named → Walked (record { ok = b; freed = false; free = 16 }) 0
   walk-starts b e = record { ok = rw e; freed = refl; free = omega arith; most = omega arith; long = refl }
 
@@ -92,26 +101,23 @@ module _ (c : Config) (clock time : ℕ) (l : List Entry) (named : Bool) where
           assoc false y w = refl
 
     module _ (h : length l ≤ i) (low : i ≤ 16) (sixteen : length l ≡ 16) where
-      pub walk-ok : s .ok ≡ (named && all good l)
-      walk-ok = sym (and-true (s .ok)) ∙ rw (all-end good l i h) at (was .ok)
-        where
-          and-true : (x : Bool) → (x && true) ≡ x
-          and-true true = refl
-          and-true false = refl
+      and-true : (x : Bool) → (x && true) ≡ x
+      and-true true = refl
+      and-true false = refl
 
-      pub walk-freed : s .freed ≡ not (all fresh l)
-      walk-freed = freed-end fresh l i (s .freed) (not (all fresh l)) h (was .freed)
+      at-end : leb 16 (s .free) ≡ true → i + find gone (drop i l) ≡ find gone l → s .free ≡ find gone l
+      at-end y f =
+          let z : find gone (drop i l) ≡ 0 = rw (drop-of-length-le l h) in
+          omega (arith, leb-true 16 (s .free) y, was .most)
 
-      pub walk-long : all sized l ≡ true
-      walk-long = sym (was .long) ∙ all-end sized l i h
-
-      pub walk-free : s .free ≡ find gone l
-      walk-free = by-cases (leb 16 (s .free)) (λ y. at-end y (rw y at (was .free))) (λ n. rw n at (was .free))
-        where
-          at-end : leb 16 (s .free) ≡ true → i + find gone (drop i l) ≡ find gone l → s .free ≡ find gone l
-          at-end y f =
-              let z : find gone (drop i l) ≡ 0 = rw (drop-of-length-le l h) in
-              omega (arith, leb-true 16 (s .free) y, was .most)
+      pub walk-ends : Ended s
+      walk-ends =
+          record {
+            ok = sym (and-true (s .ok)) ∙ rw (all-end good l i h) at (was .ok);
+            freed = freed-end fresh l i (s .freed) (not (all fresh l)) h (was .freed);
+            free = by-cases (leb 16 (s .free)) (λ y. at-end y (rw y at (was .free))) (λ n. rw n at (was .free));
+            long = sym (was .long) ∙ all-end sized l i h;
+          }
 
 -- ---- the place
 
@@ -122,20 +128,15 @@ module _ (c : Config) (t : Table) (k : List ℕ) (time : ℕ) where
   abbrev each : Bool
   each = all (entryOk c (t .clock)) row
 
-  off : (named some : Bool) → keyOk k ≡ named → each ≡ some → (named && some) ≡ false → 17 ≡ placeIn c time k t
+  off : (named some : Bool) → keyOk k ≡ named → each ≡ some → (named && some) ≡ false → OffLimits ≡ placeIn c time k t
   unfolding placeIn
   off true some n e h = rw n (sym (off-each c t k (c .lifetime) time (e ∙ h)))
   off false some n e h = rw n
 
-  -- where two tags are equal, the place is found byte by byte
-  pub close-place : (keyOk k && each) ≡ true → (r : ℕ) → r ≡ cond (distinct row) (place k (sweep (c .lifetime) time row)) 17 → r ≡ placeIn c time k t
-  unfolding placeIn
-  close-place h r e = rw (and-left (keyOk k) each h) (e ∙ sym (by-bytes c t k (c .lifetime) time (distinct row) (and-right (keyOk k) each h) refl))
-
   module _ (s : Seen) (tags : List ℕ) (own first : ℕ) (held : Bool) (sixteen : length row ≡ 16) (ok : s .ok ≡ (keyOk k && each)) (free : s .free ≡ find (notLive (c .lifetime) time) row)
       (are : tags ≡ tagsFrom 0 row) (tag : own ≡ cond (keyOk k) (folded (digestOf k)) 0) (is : first ≡ find (λ x. eqb x own) tags)
-      (holds : held ≡ holdsLive (c .lifetime) time k (getD row (indexOf first) nil)) where
-    by-tag : (keyOk k && each) ≡ true → eqb (pairs tags tags) 16 ≡ true → (b : Bool) → (ltb first 16 && held) ≡ b → cond b first (s .free) ≡ placeIn c time k t
+      (holds : held ≡ holdsLive (c .lifetime) time k (getD row (index first) nil)) where
+    by-tag : (keyOk k && each) ≡ true → eqb (pairs tags tags) 16 ≡ true → (b : Bool) → (ltb first 16 && held) ≡ b → standing (cond b first (s .free)) ≡ placeIn c time k t
     unfolding placeIn
     by-tag h apart true y =
         let below : first < 16 = ltb-true first 16 (and-left (ltb first 16) held y) in
@@ -143,33 +144,30 @@ module _ (c : Config) (t : Table) (k : List ℕ) (time : ℕ) where
         (by-own c t k (c .lifetime) time tags own first sixteen (and-right (keyOk k) each h) are apart (rw (and-left (keyOk k) each h) at tag) is held (rw (lt-ltb first 16 below) at holds)
         (and-right (ltb first 16) held y) below)
     by-tag h apart false n =
-        rw (and-left (keyOk k) each h)
-        (free ∙ by-none c t k (c .lifetime) time tags own first sixteen (and-right (keyOk k) each h) are apart (rw (and-left (keyOk k) each h) at tag) is
+        rw (and-left (keyOk k) each h, free)
+        (by-none c t k (c .lifetime) time tags own first sixteen (and-right (keyOk k) each h) are apart (rw (and-left (keyOk k) each h) at tag) is
         (λ below. sym (rw (lt-ltb first 16 below) at holds) ∙ rw (lt-ltb first 16 below) at n))
 
-    pub quick-place : (apart : Bool) → apart ≡ eqb (pairs tags tags) 16 → (r : ℕ) → r ≡ quickPlace s apart first held → (r ≡ 18 → ⊥) → r ≡ placeIn c time k t
-    quick-place apart told r e sure = e ∙ go (s .ok) refl apart refl
-      where
-        go : (b : Bool) → s .ok ≡ b → (z : Bool) → apart ≡ z → quickPlace s apart first held ≡ placeIn c time k t
-        go false y z w = rw y (off (keyOk k) each refl refl (sym ok ∙ y))
-        go true y false w = absurd (sure (e ∙ rw (y, w)))
-        go true y true w = rw (y, w) (by-tag (sym ok ∙ y) (sym told ∙ w) (ltb first 16 && held) refl)
+    -- where two tags are equal, byte by byte
+    by-all : (keyOk k && each) ≡ true → cond (distinct row) (placeOf k (sweep (c .lifetime) time row)) OffLimits ≡ placeIn c time k t
+    unfolding placeIn
+    by-all h = rw (and-left (keyOk k) each h) (sym (by-bytes c t k (c .lifetime) time (distinct row) (and-right (keyOk k) each h) refl))
 
-    -- 18 only where all is within the limits
-    pub unsure : (apart : Bool) (r : ℕ) → r ≡ quickPlace s apart first held → r ≡ 18 → (keyOk k && each) ≡ true
-    unsure apart r e h = go (s .ok) refl
-      where
-        go : (b : Bool) → s .ok ≡ b → (keyOk k && each) ≡ true
-        go true y = sym ok ∙ y
-        go false y = let no : r ≡ 17 = e ∙ rw y in absurd (omega arith)
+    -- the quick look tells the place, or what is found byte by byte is
+    pub place-seen : (apart : Bool) → apart ≡ eqb (pairs tags tags) 16
+        → settled (quickPlace s apart first held) (cond (distinct row) (placeOf k (sweep (c .lifetime) time row)) OffLimits) ≡ placeIn c time k t
+    place-seen apart told =
+        by-cases (s .ok)
+        (λ y. by-cases apart (λ z. rw (y, z) (by-tag (sym ok ∙ y) (sym told ∙ z) (ltb first 16 && held) refl)) (λ z. rw (y, z) (by-all (sym ok ∙ y))))
+        (λ y. rw y (off (keyOk k) each refl refl (sym ok ∙ y)))
 
 -- ---- the sight
 
-pub sight-is : (c : Config) (time : ℕ) (t : Table) (p q r : ℕ) (freed : Bool) → p ≡ q → r ≡ indexOf p → r < 16 → length (t .entries) ≡ 16
+pub sight-is : (c : Config) (time : ℕ) (t : Table) (p q : Place) (r : ℕ) (freed : Bool) → p ≡ q → r ≡ indexOf p → r < 16 → length (t .entries) ≡ 16
     → freed ≡ not (all (unexpired (c .lifetime) time) (t .entries))
     → _≡_ {A = Sight} (record { clock = t .clock; place = p; at = r; entry = getD (t .entries) r nil; freed = freed }) (sightAt c time t q)
 unfolding sightAt
 sight-is c time t p q r freed is-place is-index below sixteen is-freed =
-    let index : r ≡ indexOf q = is-index ∙ ap (λ (z : ℕ). indexOf z) is-place in
+    let index : r ≡ indexOf q = is-index ∙ ap (λ (z : Place). indexOf z) is-place in
     let entry : getD (t .entries) r nil ≡ at (t .entries) (indexOf q) = getD-any (t .entries) r nil unheld (omega arith) ∙ ap (at (t .entries)) index in
     λ k. record { clock = t .clock; place = is-place k; at = index k; entry = entry k; freed = is-freed k }

@@ -15,20 +15,36 @@ use Rattle.block_table.specs.declared.Table.{Table}
 use Rattle.block_table.specs.Table.{tableOk, sweep, at}
 use Rattle.places.specs.declared.Seen.{Seen}
 use Rattle.places.specs.declared.Sight.{Sight}
-use Rattle.places.specs.Places.{place}
+use Rattle.places.specs.declared.Place.{Place}
+use Rattle.places.specs.declared.Place.the-variants.{At, None, OffLimits}
+use Rattle.places.specs.declared.Quick.{Quick}
+use Rattle.places.specs.declared.Quick.the-variants.{Sure, TagsEqual}
+use Rattle.places.specs.Places.{standing, placeOf}
 
--- The key's place in the row that a sweep leaves; 17 where the key or the table is off its limits.
-unfoldable pub placeIn : Config → ℕ → List ℕ → Table → ℕ
-placeIn c time k t = cond (keyOk k && tableOk c t) (place k (sweep (c .lifetime) time (t .entries))) 17
+-- The key's place in the row that a sweep leaves.
+unfoldable pub placeIn : Config → ℕ → List ℕ → Table → Place
+placeIn c time k t = cond (keyOk k && tableOk c t) (placeOf k (sweep (c .lifetime) time (t .entries))) OffLimits
 
--- A place that is an entry's; else the first entry.
-abbrev pub indexOf : ℕ → ℕ
-indexOf p = cond (ltb p 16) p 0
+-- An entry's index, which is below 16; else the first.
+abbrev pub index : ℕ → ℕ
+index i = cond (ltb i 16) i 0
+
+-- The index of a place; else the first.
+abbrev pub indexOf : Place → ℕ
+indexOf (At i) = index i
+indexOf None = 0
+indexOf OffLimits = 0
 
 -- What is seen of the table by a call whose key has this place.
-unfoldable pub sightAt : Config → ℕ → Table → ℕ → Sight
+unfoldable pub sightAt : Config → ℕ → Table → Place → Sight
 sightAt c time t p =
-    record { clock = t .clock; place = p; at = indexOf p; entry = at (t .entries) (indexOf p); freed = not (all (unexpired (c .lifetime) time) (t .entries)) }
+    record {
+      clock = t .clock;
+      place = p;
+      at = indexOf p;
+      entry = at (t .entries) (indexOf p);
+      freed = not (all (unexpired (c .lifetime) time) (t .entries));
+    }
 
 -- The sight of the table for a call with this key; and what the types give of a row: sixteen entries, and 64 key bytes in each free one.
 abbrev pub Sees : Config → ℕ → List ℕ → Table → Sight → Type 0
@@ -43,6 +59,11 @@ seenNext c clock time s i e =
       free = cond (leb 16 (s .free) && notLive (c .lifetime) time e) i (s .free);
     }
 
--- The key's place by the tags: `first` is the first entry with the key's own. 17 where something is off its limits, 18 where two tags are equal.
-abbrev pub quickPlace : Seen → Bool → ℕ → Bool → ℕ
-quickPlace s apart first held = cond (s .ok) (cond apart (cond (ltb first 16 && held) first (s .free)) 18) 17
+-- The key's place by the tags: `first` is the first entry with the key's own, and `held` says that this entry holds it.
+abbrev pub quickPlace : Seen → Bool → ℕ → Bool → Quick
+quickPlace s apart first held = cond (s .ok) (cond apart (Sure (standing (cond (ltb first 16 && held) first (s .free)))) TagsEqual) (Sure OffLimits)
+
+-- The place by a quick look, or, where it does not tell, this one.
+abbrev pub settled : Quick → Place → Place
+settled (Sure p) q = p
+settled TagsEqual q = q

@@ -11,16 +11,32 @@ ghost use Rattle.digest.specs.Digest.{digestOf, folded};
 ghost use Rattle.keys.specs.Lists.{find};
 ghost use Rattle.keys.specs.Keys.{keyOk};
 ghost use Rattle.block_table.specs.Table.{distinct, sweep};
-ghost use Rattle.places.specs.Places.{place};
-ghost use Rattle.places.specs.Sight.{indexOf, Sees, seenNext, quickPlace};
+ghost use Rattle.places.specs.declared.Place.the-variants.{OffLimits};
+ghost use Rattle.places.specs.Places.{place, standing, placeOf};
+ghost use Rattle.places.specs.Sight.{index, indexOf, Sees, seenNext, quickPlace};
 ghost use Rattle.entries.specs.Quick.{holdsLive, notLive, sized};
 
-// What a call needs of the table: its clock, the place of the key in the row that a sweep would leave (16 if there is none, 17 where the key or the table
-// is off its limits), the entry that stands there now, before any sweep, with its index (the first entry where there is no place), and whether a sweep would
-// free an entry in use.
+// The place of a key in the row that a sweep would leave.
+pub enum Place {
+    // The index of the entry in use for it, else of the lowest free one.
+    At(usize),
+    // Neither is there.
+    None,
+    // The key or the table is off its limits.
+    OffLimits,
+}
+
+// What the tags tell of the place: nothing, where two of them are equal.
+pub enum Quick {
+    Sure(Place),
+    TagsEqual,
+}
+
+// What a call needs of the table: its clock, the place of the key, the entry that stands there now, before any sweep, with its index (the first entry where
+// there is no place), and whether a sweep would free an entry in use.
 pub struct Sight {
     pub clock: u64,
-    pub place: usize,
+    pub place: Place,
     pub at: usize,
     pub entry: Entry,
     pub freed: bool,
@@ -92,14 +108,20 @@ fn place_of(entries: [Entry; 16], lifetime: u64, time: u64, key: &[u8]) -> usize
     find_free(entries, lifetime, time)
 }
 
-// The same; 17 if two entries in use have one key.
-fn close_place(entries: [Entry; 16], lifetime: u64, time: u64, key: &[u8]) -> usize
-    ensures { λ r. ⌜ r ≡ cond (distinct entries) (place (now (key .entry)) (sweep lifetime time entries)) 17 ⌝ }
+fn standing(i: usize) -> Place
+    ensures { λ r. ⌜ r ≡ standing i ⌝ }
+{
+    if i < 16 { Place::At(i) } else { Place::None }
+}
+
+// The same as a place; off its limits if two entries in use have one key.
+fn close_place(entries: [Entry; 16], lifetime: u64, time: u64, key: &[u8]) -> Place
+    ensures { λ r. ⌜ r ≡ cond (distinct entries) (placeOf (now (key .entry)) (sweep lifetime time entries)) OffLimits ⌝ }
 {
     if block_table::all_distinct(entries) {
-        return place_of(entries, lifetime, time, key);
+        return standing(place_of(entries, lifetime, time, key));
     }
-    17
+    Place::OffLimits
 }
 
 // ---- By tags
@@ -145,27 +167,36 @@ fn see(seen: Seen, i: usize, e: Entry, config: Config, clock: u64, time: u64) ->
     }
 }
 
-fn index(place: usize) -> usize
-    ensures { λ r. ⌜ (r ≡ indexOf place) × (r < 16) ⌝ }
+fn index(i: usize) -> usize
+    ensures { λ r. ⌜ (r ≡ index i) × (r < 16) ⌝ }
 {
-    if place < 16 { place } else { 0 }
+    if i < 16 { i } else { 0 }
 }
 
-// The key's place, by what is seen: `first` is where its tag stands, and `held` tells whether the entry there holds it. 17 where something is off its
-// limits, 18 where two tags are equal.
-fn quick_place(seen: Seen, apart: bool, first: usize, held: bool) -> usize
+fn index_of(place: Place) -> usize
+    ensures { λ r. ⌜ (r ≡ indexOf place) × (r < 16) ⌝ }
+{
+    match place {
+        Place::At(i) => index(i),
+        Place::None => 0,
+        Place::OffLimits => 0,
+    }
+}
+
+// The key's place, by what is seen: `first` is where its tag stands, and `held` tells whether the entry there holds it.
+fn quick_place(seen: Seen, apart: bool, first: usize, held: bool) -> Quick
     ensures { λ r. ⌜ r ≡ quickPlace seen apart first held ⌝ }
 {
     if !seen.ok {
-        return 17;
+        return Quick::Sure(Place::OffLimits);
     }
     if !apart {
-        return 18;
+        return Quick::TagsEqual;
     }
     if (first < 16) & held {
-        return first;
+        return Quick::Sure(Place::At(first));
     }
-    seen.free
+    Quick::Sure(standing(seen.free))
 }
 
 // Its contract gives the proof the row's length.
@@ -203,11 +234,11 @@ pub fn look(config: Config, table: Table, time: u64, key: &[u8]) -> Sight
     let first = find_tag(tags, own_tag(key));
     let own = entries[index(first)];
     let held = holds_live(own, config.lifetime, time, key);
-    let mut place = quick_place(seen, digest::apart(tags), first, held);
-    if place == 18 {
-        place = close_place(entries, config.lifetime, time, key);
-    }
-    let at = index(place);
+    let place = match quick_place(seen, digest::apart(tags), first, held) {
+        Quick::Sure(place) => place,
+        Quick::TagsEqual => close_place(entries, config.lifetime, time, key),
+    };
+    let at = index_of(place);
     let entry = entries[at];
     Sight {
         clock,

@@ -1,24 +1,31 @@
+use mathlib.Core.Path.{_≡_}
+use mathlib.Core.Bool.{true}
+use lib.Dec.{ltb}
 use borrow.Author.Tests.{not-true, not-false}
+use Rattle.pieces.proofs.Tests.{and-left}
+use borrow.Author.Needs.{needs}
 use Rattle.places.proofs.quick_place.Statement.{statement}
 use Rattle.places.proofs.quick_place.Tie as tie
 
-returns : tie.Need-returns
-returns c = rw (not-true (c .before .before .args .seen .ok) (c .if1 .taken))
+off-limits : tie.Need-returns
+off-limits c = rw (not-true (c .before .before .args .seen .ok) (c .if1 .taken))
 
-returns-2 : tie.Need-returns-2
-returns-2 c =
-    let a = c .before .before .before .args in
-    rw (not-false (a .seen .ok) (c .before .if1 .left), not-true (a .apart) (c .if2 .taken))
+tags-equal : tie.Need-returns-2
+tags-equal c =
+    let args = c .before .before .before .args in
+    rw (not-false (args .seen .ok) (c .before .if1 .left), not-true (args .apart) (c .if2 .taken))
 
-returns-3 : tie.Need-returns-3
-returns-3 c =
-    let a = c .before .before .before .before .args in
-    rw (not-false (a .seen .ok) (c .before .before .if1 .left), not-false (a .apart) (c .before .if2 .left), c .if3 .taken)
+at-tag : tie.Need-returns-3
+at-tag c =
+    let args = c .before .before .before .before .args in
+    let below : ltb (args .first) 16 ≡ true = and-left (ltb (args .first) 16) (args .held) (c .if3 .taken) in
+    rw (not-false (args .seen .ok) (c .before .before .if1 .left), not-false (args .apart) (c .before .if2 .left), c .if3 .taken, below)
 
-returns-4 : tie.Need-returns-4
-returns-4 c =
-    let a = c .before .before .before .before .args in
-    rw (not-false (a .seen .ok) (c .before .before .if1 .left), not-false (a .apart) (c .before .if2 .left), c .if3 .left)
+at-free : tie.Need-returns-4
+at-free c =
+    let told = c .before in
+    let args = told .before .before .before .before .args in
+    rw (not-false (args .seen .ok) (told .before .before .if1 .left), not-false (args .apart) (told .before .if2 .left), told .if3 .left, c .standing .ensures)
 
 pub quick-place-spec : {M : Type 1} → statement M
-quick-place-spec = tie.close (tie.spec returns returns-2 returns-3 returns-4)
+quick-place-spec = tie.close (tie.spec off-limits tags-equal at-tag (λ c κs. search needs) at-free)
