@@ -1,10 +1,10 @@
 // One entry of the table: its limits, expiry, and how a key's entry starts.
 use block_state::Assembled;
 use block_state::BlockState;
-use block_state::limits;
 use block_state::Cached;
-use config::Config;
 use block_state::Recorded;
+use block_state::limits;
+use config::Config;
 use keys::Key;
 ghost use mathlib.Core.Path.{_≡_};
 ghost use mathlib.Core.Bool.{true, false, not, _&&_, cond};

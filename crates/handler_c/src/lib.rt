@@ -1,9 +1,9 @@
 // The handler for programs in C and Rust: its calls on a table and memories that the caller owns, with answers as numbers.
 use block_handler::Change;
-use config::Config;
 use block_table::Table;
 use block_value::BlockValue;
 use block_value::Reading;
+use config::Config;
 use replies::Block;
 use replies::Found;
 use replies::Reply;

@@ -1,6 +1,6 @@
 // What a call sees of the table, with the place of its key: the entry in use for it, else the lowest free one.
-use config::Config;
 use block_table::Table;
+use config::Config;
 use entries::Entry;
 ghost use mathlib.Core.Path.{_≡_};
 ghost use mathlib.Core.Bool.{true, cond};
