@@ -2,6 +2,7 @@
 use block_value::BlockValue;
 use negotiation::MaybeBlock;
 
+pub mod apart;
 pub mod state;
 
 // BlockHandlerConfig in the Rust, with the mode and the sizes of the pieces.
@@ -55,6 +56,14 @@ pub struct Part {
     pub to: usize,
 }
 
+// A chunk from the cache: a Block1 value if the call completed a body, the Block2 value, and the head and the chunk, parts of the response memory.
+pub struct Served {
+    pub block1: MaybeBlock,
+    pub block2: BlockValue,
+    pub head: Part,
+    pub chunk: Part,
+}
+
 pub enum Answer {
     // 2.31, with the Block1 value.
     Continue(BlockValue),
@@ -64,8 +73,8 @@ pub enum Answer {
     Handed(BlockValue, Part),
     // To the application, with the message's own payload.
     Pass,
-    // From the cache: a Block1 value if the call completed a body, the Block2 value, and the head and the chunk, parts of the response memory.
-    Served(MaybeBlock, BlockValue, Part, Part),
+    // From the cache.
+    Served(Served),
     // The response goes out as it is.
     Plain,
     // The response goes out with this Block2 value and this part of its own payload; nothing is cached.
@@ -73,6 +82,31 @@ pub enum Answer {
     // The same, and the response is cached.
     First(BlockValue, Part),
     Refused(u8),
+}
+
+// The nine answers by name.
+pub enum Kind {
+    Continue,
+    TooLarge,
+    Handed,
+    Pass,
+    Served,
+    Plain,
+    Whole,
+    First,
+    Refused,
+}
+
+// What an answer says: its name, a refusal's number (else 0), the two block values to send, the response code (0 where the response that goes out has its own),
+// the body of Handed or the chunk of Served, Whole and First, and the head of Served; a part from 0 to 0 elsewhere.
+pub struct Said {
+    pub kind: Kind,
+    pub number: u8,
+    pub block1: MaybeBlock,
+    pub block2: MaybeBlock,
+    pub code: u8,
+    pub part: Part,
+    pub head: Part,
 }
 
 // A state with what was answered.

@@ -23,7 +23,12 @@ module _ (at : ℕ) (s : BlockState) (u : List ℕ) (block1 : MaybeBlock) (ch : 
 
   pub served-bytes : (b : BlockValue) (from to : ℕ) → ch ≡ chunk.Bytes b from to
       → served at s u block1 ch ≡ left (withCached s (keptWhile (b .more) (s .cached))) u
-      (Served block1 b (bytesFrom at (s .cached .head)) (record { from = at + s .cached .head + from; to = at + s .cached .head + to }))
+      (Served (record {
+        block1 = block1;
+        block2 = b;
+        head = bytesFrom at (s .cached .head);
+        chunk = record { from = at + s .cached .head + from; to = at + s .cached .head + to };
+      }))
   unfolding served
   served-bytes b from to e = rw e
 

@@ -20,7 +20,7 @@ served away s u block1 (chunk.Refused n) = left s u (Refused n)
 served away s u block1 (chunk.Bytes b from to) =
     let head = s .cached .head in
     left (withCached s (keptWhile (b .more) (s .cached))) u
-    (Served block1 b (bytesFrom away head) (record { from = away + head + from; to = away + head + to }))
+    (Served (record { block1 = block1; block2 = b; head = bytesFrom away head; chunk = record { from = away + head + from; to = away + head + to } }))
 
 -- Step 4: "Record the Block2 value, or none. If it is given and a response is cached, serve." Step 5: "Otherwise Handed after step 2, or Pass."
 unfoldable pub onward : ℕ → BlockState → List ℕ → MaybeBlock → MaybeBlock → Answer → Left

@@ -2,6 +2,7 @@
 use block_state::Answer;
 use block_state::BlockState;
 use block_state::Part;
+use block_state::Served;
 use block_state::Stepped;
 use block_state::state;
 use block_value::BlockValue;
@@ -30,15 +31,19 @@ fn serve_cached_response(
         Chunk::Bytes(reply, from, to) => {
             let next = state::with_cached(state, state::kept_while(reply.more, cached));
             let start = away + state::wide8(cached.head);
-            let head = Part {
-                from: away,
-                to: start,
+            let served = Served {
+                block1,
+                block2: reply,
+                head: Part {
+                    from: away,
+                    to: start,
+                },
+                chunk: Part {
+                    from: start + from,
+                    to: start + to,
+                },
             };
-            let chunk = Part {
-                from: start + from,
-                to: start + to,
-            };
-            state::answered(next, Answer::Served(block1, reply, head, chunk))
+            state::answered(next, Answer::Served(served))
         }
     }
 }

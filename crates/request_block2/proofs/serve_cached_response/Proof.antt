@@ -43,12 +43,6 @@ wide8-requires c κs = search needs
 add-start : tie.Need-add-start
 add-start c = search needs
 
-add-t18 : tie.Need-add-t18
-add-t18 c = omega (arith, within c)
-
-add-t19 : tie.Need-add-t19
-add-t19 c = omega (arith, within c)
-
 answered-requires : tie.Need-answered-requires
 answered-requires c κs = search needs
 
@@ -73,8 +67,8 @@ serve-cached-response-spec =
     with-cached-requires
     wide8-requires
     add-start
-    add-t18
-    add-t19
+    (λ c. omega (arith, within c))
+    (λ c. omega (arith, within c))
     answered-requires
     returns
     returns-2)
