@@ -1,5 +1,4 @@
 // The bytes of a message, put into an output that has room for them.
-use crate::measure::wide;
 ghost use mathlib.Core.Path.{_≡_};
 ghost use mathlib.Core.Bool.{true};
 ghost use mathlib.Core.List.{_++_};
@@ -72,8 +71,8 @@ pub fn options<'a>(
     let mut at = 0;
     let mut i = 0;
     while i < numbers.len() {
-        let number = wide(numbers[i]);
-        let end = at + wide(lengths[i]);
+        let number = wide::usize_of_u32(numbers[i]);
+        let end = at + wide::usize_of_u32(lengths[i]);
         to = option(out, to, number - before, &values[at..end]);
         before = number;
         at = end;

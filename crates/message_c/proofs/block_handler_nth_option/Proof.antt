@@ -4,21 +4,6 @@ use borrow.Author.Needs.{needs}
 use Rattle.message_c.proofs.block_handler_nth_option.Statement.{statement}
 use Rattle.message_c.proofs.block_handler_nth_option.Tie as tie
 
-nth-option-requires : tie.Need-nth-option-requires
-nth-option-requires c κs = search needs
-
-enum-known-value : tie.Need-enum-known-value
-enum-known-value c = search needs
-
-option-at-requires : tie.Need-option-at-requires
-option-at-requires c κs = search needs
-
-enum-told : tie.Need-enum-told
-enum-told c = search needs
-
-no-option-requires : tie.Need-no-option-requires
-no-option-requires c κs = search needs
-
 returns : tie.Need-returns
 returns c = c .option-at .ensures ∙ ap (optionFound (c .before .before .before .before .before .before .args .number)) (sym (c .before .before .value .given .1) ∙ c .before .before .before .before .nth-option .ensures)
 
@@ -29,10 +14,10 @@ pub block-handler-nth-option-spec : {M : Type 1} → statement M
 block-handler-nth-option-spec =
     tie.close
     (tie.spec
-    nth-option-requires
-    enum-known-value
-    option-at-requires
-    enum-told
-    no-option-requires
+    (λ c κs. search needs)
+    (λ c. search needs)
+    (λ c κs. search needs)
+    (λ c. search needs)
+    (λ c κs. search needs)
     returns
     returns-2)
