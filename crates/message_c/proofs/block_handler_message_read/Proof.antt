@@ -5,10 +5,14 @@ use Rattle.message_c.proofs.block_handler_message_read.Statement.{state
 use Rattle.message_c.proofs.block_handler_message_read.Tie as tie
 
 returns : tie.Need-returns
-returns c = c .read .ensures ∙ ap messageRead (sym (c .before .before .packet .given .1) ∙ c .before .before .before .before .from-bytes .ensures)
+returns c =
+    let taken = c .before .before in
+    c .read .ensures ∙ ap messageRead (sym (taken .packet .given .1) ∙ taken .before .before .from-bytes .ensures)
 
 returns-2 : tie.Need-returns-2
-returns-2 c = c .refused .ensures ∙ ap messageRead (sym (c .before .before .n .given .1) ∙ c .before .before .before .before .from-bytes .ensures)
+returns-2 c =
+    let refused = c .before .before in
+    c .refused .ensures ∙ ap messageRead (sym (refused .n .given .1) ∙ refused .before .before .from-bytes .ensures)
 
 pub block-handler-message-read-spec : {M : Type 1} → statement M
 block-handler-message-read-spec =

@@ -5,10 +5,14 @@ use Rattle.message_c.proofs.block_handler_message_write.Statement.{stat
 use Rattle.message_c.proofs.block_handler_message_write.Tie as tie
 
 returns : tie.Need-returns
-returns c = record { answer = ap messageWritten (sym (c .before .len .given .1) ∙ c .before .before .before .before .before .to-bytes .ensures .answer); output = c .before .before .before .before .before .to-bytes .ensures .output }
+returns c =
+    let writes = c .before .before .before .before .before .to-bytes .ensures in
+    record { answer = ap messageWritten (sym (c .before .len .given .1) ∙ writes .answer); output = writes .output }
 
 returns-2 : tie.Need-returns-2
-returns-2 c = record { answer = ap messageWritten (sym (c .before .n .given .1) ∙ c .before .before .before .before .before .to-bytes .ensures .answer); output = c .before .before .before .before .before .to-bytes .ensures .output }
+returns-2 c =
+    let writes = c .before .before .before .before .before .to-bytes .ensures in
+    record { answer = ap messageWritten (sym (c .before .n .given .1) ∙ writes .answer); output = writes .output }
 
 pub block-handler-message-write-spec : {M : Type 1} → statement M
 block-handler-message-write-spec =

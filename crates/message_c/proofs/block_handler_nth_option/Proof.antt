@@ -5,10 +5,16 @@ use Rattle.message_c.proofs.block_handler_nth_option.Statement.{stateme
 use Rattle.message_c.proofs.block_handler_nth_option.Tie as tie
 
 returns : tie.Need-returns
-returns c = c .option-at .ensures ∙ ap (optionFound (c .before .before .before .before .before .before .args .number)) (sym (c .before .before .value .given .1) ∙ c .before .before .before .before .nth-option .ensures)
+returns c =
+    let value = c .before .before in
+    let asked = value .before .before in
+    c .option-at .ensures ∙ ap (optionFound (asked .before .before .args .number)) (sym (value .value .given .1) ∙ asked .nth-option .ensures)
 
 returns-2 : tie.Need-returns-2
-returns-2 c = c .no-option .ensures ∙ ap (optionFound (c .before .before .before .before .before .args .number)) (sym (c .before .enum-told .given .1) ∙ c .before .before .before .nth-option .ensures)
+returns-2 c =
+    let absent = c .before in
+    let asked = absent .before .before in
+    c .no-option .ensures ∙ ap (optionFound (asked .before .before .args .number)) (sym (absent .enum-told .given .1) ∙ asked .nth-option .ensures)
 
 pub block-handler-nth-option-spec : {M : Type 1} → statement M
 block-handler-nth-option-spec =

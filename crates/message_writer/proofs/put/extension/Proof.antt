@@ -1,7 +1,7 @@
 use native.Mathlib.Omega.{arith}
 use mathlib.Core.Path.{sym, ap}
 use lib.ListN.{length}
-use Rattle.pieces.proofs.Puts.{put-none, put-then, put-as}
+use Rattle.pieces.proofs.Puts.{put-none, put-as}
 use Rattle.message_writer.proofs.Heads.{extension-0, extension-1, extension-2}
 use borrow.Author.Needs.{needs}
 use Rattle.message_writer.proofs.put.extension.Statement.{statement}
@@ -19,18 +19,11 @@ returns-2 c =
     let small = put .before .before in
     put-as (put .put-byte .ensures) (sym (extension-1 _ (small .before .if1 .left) (small .if2 .taken)))
 
-high-fits : tie.Need-put-byte-requires-2
-high-fits c κs = omega (arith, ap length (extension-2 _ (c .before .if2 .left)))
-
-low-fits : tie.Need-put-byte-requires-3
-low-fits c κs = let large = c .before .before .before .before .before in omega (arith, ap length (extension-2 _ (large .if2 .left)))
+two-fit : tie.Need-put-requires
+two-fit c κs = omega (arith, ap length (extension-2 _ (c .before .before .if2 .left)))
 
 returns-3 : tie.Need-returns-3
-returns-3 c =
-    let low = c .before .before in
-    let high = low .before .before .before .before in
-    let large = high .before .before in
-    put-as (put-then (high .put-byte2 .ensures) (low .put-byte3 .ensures)) (sym (extension-2 _ (large .if2 .left)))
+returns-3 c = let put = c .before .before in put-as (put .put .ensures) (sym (extension-2 _ (put .before .before .before .if2 .left)))
 
 pub extension-spec : {M : Type 1} → statement M
 extension-spec =
@@ -42,8 +35,8 @@ extension-spec =
     (λ c. search needs)
     returns-2
     (λ c. search needs)
-    high-fits
     (λ c. search needs)
-    low-fits
+    (λ c. search needs)
+    two-fit
     (λ c. search needs)
     returns-3)

@@ -9,11 +9,8 @@ returns : tie.Need-returns
 unfolding opening headBytes
 returns c =
     let token = c .before .before in
-    let low = token .before .before .before .before in
-    let high = low .before .before .before .before in
-    let code = high .before .before .before .before in
-    let first = code .before .before .before .before in
-    put-then (first .put-byte .ensures) (put-then (code .put-byte2 .ensures) (put-then (high .put-byte3 .ensures) (put-then (low .put-byte4 .ensures) (token .put .ensures))))
+    let head = token .before .before .before .before in
+    put-then (head .put .ensures) (token .put2 .ensures)
 
 pub head-spec : {M : Type 1} → statement M
 head-spec =
@@ -23,10 +20,8 @@ head-spec =
     (λ c. search needs)
     (λ c. search needs)
     (λ c. search needs)
-    (λ c κs. search needs)
-    (λ c κs. search needs)
     (λ c. search needs)
-    (λ c κs. search needs)
+    (λ c. search needs)
     (λ c. search needs)
     (λ c κs. search needs)
     (λ c κs. search needs)
