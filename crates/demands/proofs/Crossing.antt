@@ -36,7 +36,7 @@ use Rattle.demands.specs.Crossing.{MorningsCross, SixteenCross, Uncounte
 use Rattle.demands.proofs.Outcomes.{storing, storing-assembled, early-or-placed}
 use Rattle.demands.proofs.Runs.{asks-own, all-front, all-behind, seen-cut, none-seen, Cut, cut, rising-cut, rising-own, fresh-fits, after-fits, after-clock}
 use Rattle.demands.proofs.Held.{Held}
-use Rattle.demands.proofs.Push.{Pushed, none-first, ready-first, pass, push-from, each-block}
+use Rattle.demands.proofs.Push.{Pushed, none-first, ready-first, pass, push-from, firstOf, blocks-follow}
 use Rattle.demands.proofs.Sixteen.{call-entries, Over, over-call, over-after, has-place}
 
 -- ---- between two pushes: no entry of the key's has anything assembled
@@ -60,7 +60,7 @@ idle-response c w k q r f mine is idle =
     let s : BlockState = opened (q .key) (rowOf c w q) .state in
     let d : List ℕ = pieceOf (c .response) i (w .response) in
     let long : length (rowOf c w q) ≡ 16 = row-length c (w .table) (q .time) (f .table) (f .sixteen) in
-    let none : s .assembled .len ≡ 0 = rw mine at (none-first c w k 0 (q .time) f later (λ j b h l. idle j b h) (rw mine i16)) in
+    let none : s .assembled .len ≡ 0 = rw mine at (none-first c w k (q .time) f later (λ j b h l. idle j b h) (rw mine i16)) in
     let step : stepResponse c s d r .state .assembled .len ≡ 0 = ap (λ (a : Assembled). a .len) (storing-assembled c s d r _ (storing c s d r)) ∙ none in
     rw is
     (λ j b.
@@ -122,9 +122,10 @@ module _ (c : Config) (k : List ℕ) (keys : List (List ℕ)) (few : length keys
       let idle : Idle k v = idle-others c k (z .before) w (g .fits) ab₀ (z .none) (g .idle) in
       let later : v .table .clock ≤ s .time = after-clock c (s .time) (z .before) w (r .0) (r .1) in
       let placed = has-place c v keys fits over k (s .time) few (all-behind _ (z .before) parts aa .0) in
-      let ready = ready-first c v k (p .exponent) (s .time) fits later placed (λ plain i b h l. idle i b h) in
+      let ready = ready-first c v k (s .time) fits later (firstOf (p .exponent) (p .rest)) refl placed (λ plain i b h l. idle i b h) in
       let named : keyOk k ≡ true = and-left (keyOk k) (whatOk (request (s .message))) (form .0) in
-      let n = push-from c k (p .exponent) named (p .rest) v 0 [] s (z .behind) (callsOf k pushes) ready (each-block c (p .exponent) s (p .rest) b) (b .prompt) (b .fits)
+      let follow = blocks-follow c (p .exponent) s (p .rest) b in
+      let n = push-from c k named (p .rest) v (firstOf (p .exponent) (p .rest)) [] s (z .behind) (callsOf k pushes) ready follow (b .prompt) (b .fits)
       (all-behind _ (z .before) parts ab) (r .2) (z .left) in
       subst (Pushed c w k (lastOf s (p .rest) .time) (length (s ∷ p .rest)) (joined s (p .rest)) (callsOf k pushes)) (sym (z .is))
       (pass c w k (lastOf s (p .rest) .time) (length (s ∷ p .rest)) (joined s (p .rest)) (callsOf k pushes) parts (z .before) (z .none) n)
