@@ -4,7 +4,7 @@ use mathlib.Core.Bool.{true, false, cond, false≢true}
 use mathlib.Core.Path.{_≡_, refl, sym, _∙_, ap, subst}
 use mathlib.Core.List.{List, [], _∷_, _++_, map, append-nil, cons≢nil}
 use native.Mathlib.Omega.{arith}
-use lib.ListN.{length, take, getD-replicate, take-append-drop}
+use lib.ListN.{length, take, take-append-drop}
 use lib.Seq.{take-at, drop-at}
 use lib.Dec.{leb}
 use borrow.Author.Tests.{leb-true, leb-false, lt-ltb}
@@ -20,7 +20,7 @@ use Rattle.pieces.specs.Memory.{pieceOf}
 use Rattle.keys.specs.Keys.{same, keyOk}
 use Rattle.keys.proofs.Keys.{same-eq}
 use Rattle.entries.specs.declared.Entry.{Entry}
-use Rattle.entries.specs.Entries.{free, holds, live, swept}
+use Rattle.entries.specs.Entries.{holds, live, swept}
 use Rattle.entries.proofs.Entries.{holds-new}
 use Rattle.block_table.proofs.Row.{Unique, at-sweep, at-set}
 use Rattle.block_table.proofs.TableFits.{row-length}
@@ -34,7 +34,7 @@ use Rattle.demands.specs.Twice.{lastOf}
 use Rattle.demands.specs.Crossing.{inForm, counts, counted, seenCounted, UncountedRefused, among, AllAmong, FromFresh, Transfer, AllProper, callsOf, HandsAll}
 use Rattle.demands.specs.Crossing.{MorningsCross, SixteenCross, UncountedAreRefused}
 use Rattle.demands.proofs.Outcomes.{storing, storing-assembled, early-or-placed}
-use Rattle.demands.proofs.Runs.{asks-own, all-front, all-behind, seen-cut, none-seen, Cut, cut, rising-cut, rising-own, fresh-fits, after-fits, after-clock}
+use Rattle.demands.proofs.Runs.{asks-own, all-front, all-behind, seen-cut, none-seen, Cut, cut, rising-cut, rising-own, fresh-entry, fresh-fits, after-fits, after-clock}
 use Rattle.demands.proofs.Held.{Held}
 use Rattle.demands.proofs.Push.{Pushed, none-first, ready-first, pass, push-from, firstOf, blocks-follow}
 use Rattle.demands.proofs.Sixteen.{call-entries, Over, over-call, over-after, has-place}
@@ -233,14 +233,11 @@ module _ (c : Config) (keys : List (List ℕ)) (few : length keys ≤ 16) where
 -- ---- from a fresh table
 
 module _ (c : Config) (w : World) (keys : List (List ℕ)) (calls : List Call) (g : FromFresh c w keys calls) where
-  at-fresh : (i : ℕ) → i < 16 → entryAt w i ≡ free
-  at-fresh i b = rw (g .start .table) (getD-replicate 16 i free free b)
-
   fresh-over : Over keys w
-  fresh-over i b u = absurd (false≢true (rw (at-fresh i b) at u))
+  fresh-over i b u = absurd (false≢true (rw (fresh-entry w (g .start .table) i b) at u))
 
   fresh-idle : (k : List ℕ) → Idle k w
-  fresh-idle k i b h = rw (at-fresh i b)
+  fresh-idle k i b h = rw (fresh-entry w (g .start .table) i b)
 
   fresh-clock : w .table .clock ≡ 0
   fresh-clock = rw (g .start .table)

@@ -6,7 +6,7 @@ use mathlib.Core.Logic.{inl}
 use mathlib.Core.List.{List, _++_, append-nil}
 use native.Mathlib.Nat.{zero-add, zero-mul, one-mul}
 use native.Mathlib.Omega.{arith}
-use lib.ListN.{length, take, drop}
+use lib.ListN.{length, take, drop, replicate}
 use lib.Seq.{drop-drop, take-at, drop-at, length-take-le}
 use Rattle.pieces.specs.Memory.{patch, part}
 use Rattle.splicing.specs.Splice.{splicedLength, spliceOf, pieceAfter}
@@ -28,11 +28,12 @@ use Rattle.request_step.specs.Step.{stepRequest}
 use Rattle.pieces.proofs.Tests.{clash-of}
 use Rattle.block_handler.specs.Call.{call}
 use Rattle.demands.specs.Demand3.{block, Fills, Demand3}
-use Rattle.demands.specs.Incident.{Carries, once, twice, TailKept, Story, StartsAfresh}
+use Rattle.demands.specs.Incident.{Carries, once, twice, TailKept, shop, Story, StartsAfresh}
 use Rattle.demands.proofs.Checks.{meets-all}
 use Rattle.demands.proofs.Step.{step-more, step-last}
 use Rattle.demands.proofs.OwnStep.{unmarked, OneBlock, form-ok, agreed, held-after}
 use Rattle.demands.proofs.Demand3.{demand3}
+use Rattle.demands.proofs.Shams.{two-blocks}
 use Rattle.demands.proofs.Computes.{calls}
 
 -- ---- strict mode
@@ -147,16 +148,7 @@ story =
         limits = refl;
         sixteen = refl;
         bytes = (((omega arith, tt), tt), (((omega arith, tt), tt), tt));
-        blocks = record {
-          count = omega arith;
-          numbered = (refl, refl);
-          size = omega arith;
-          full = (refl, omega arith);
-          alone = (refl, refl);
-          room = (omega arith, omega arith);
-          fits = omega arith;
-          prompt = (omega arith, tt);
-        };
+        blocks = two-blocks (shop true) (omega arith) 6 7 (replicate 16 2) (replicate 16 3) refl (omega arith) (omega arith) (omega arith);
       };
       own = refl;
       clock = (omega arith, (omega arith, tt));

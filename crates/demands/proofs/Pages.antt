@@ -6,7 +6,7 @@ use mathlib.Core.Logic.{_≢_}
 use mathlib.Core.List.{List, [], _∷_, _++_}
 use mathlib.Core.Option.{Option, none, some}
 use native.Mathlib.Omega.{arith}
-use lib.ListN.{length, set, take, drop, length-append, getD-replicate}
+use lib.ListN.{length, set, take, drop, length-append}
 use lib.Seq.{take-take, take-at, drop-at}
 use lib.Dec.{leb}
 use Rattle.pieces.specs.Memory.{patch, part as bytesIn, pieceOf, putPiece}
@@ -46,7 +46,7 @@ use Rattle.block_handler.proofs.Frame.{WorldFits, call-cases, call-fits}
 use Rattle.demands.specs.Demand3.{after, AllBytes, entryAt}
 use Rattle.demands.proofs.OwnStep.{held-after}
 use Rattle.demands.proofs.Outcomes.{cond-same, Storing, as-before, stores, storing, Outcome, refused, past, tooLarge, continued, onwards, serves, none as no-block1, took, outcome}
-use Rattle.demands.proofs.Runs.{fresh-fits, after-fits}
+use Rattle.demands.proofs.Runs.{fresh-entry, fresh-fits, after-fits}
 use Rattle.demands.proofs.Push.{shown-part}
 use Rattle.demands.specs.Pages.{Page, storedBy, noted, lastStored, ShowsPage, ServesThePage}
 
@@ -323,9 +323,6 @@ pub serves-the-page : ServesThePage call
 unfolding ServesThePage
 serves-the-page c w calls q r block1 b head part fresh ab er e =
     let f : WorldFits c w = fresh-fits c w fresh in
-    let known : Known c w (q .key) none = λ i i16 h held. absurd (false≢true (rw (at-fresh i i16) at held)) in
+    let known : Known c w (q .key) none = λ i i16 h held. absurd (false≢true (rw (fresh-entry w (fresh .table) i i16) at held)) in
     served-page c (after call c w calls) q (lastStored call c w (q .key) none calls) r block1 b head part (after-fits c calls w f ab)
     (known-run c (q .key) calls w none f ab known) er e
-  where
-    at-fresh : (i : ℕ) → i < 16 → entryAt w i ≡ free
-    at-fresh i i16 = rw (fresh .table) (getD-replicate 16 i free free i16)

@@ -5,7 +5,7 @@ use mathlib.Core.Path.{_≡_, refl, sym, _∙_, ap, subst}
 use mathlib.Core.Logic.{_⊎_, inl, inr, ⊎-elim}
 use mathlib.Core.List.{List, [], _∷_, _++_}
 use native.Mathlib.Omega.{arith}
-use lib.ListN.{length, set, take, getD-replicate}
+use lib.ListN.{length, set, take}
 use lib.Seq.{length-take-le}
 use lib.Dec.{ltb, eqb}
 use borrow.Author.Tests.{ltb-false, leb-true, eqb-true, eq-eqb}
@@ -34,7 +34,7 @@ use Rattle.request_step.proofs.StepKeeps.{request-keeps}
 use Rattle.keys.specs.Keys.{same}
 use Rattle.keys.proofs.Keys.{same-eq, same-refl}
 use Rattle.entries.specs.declared.Entry.{Entry}
-use Rattle.entries.specs.Entries.{free, inUse, holds, live, swept}
+use Rattle.entries.specs.Entries.{inUse, holds, live, swept}
 use Rattle.entries.proofs.Entries.{holds-new}
 use Rattle.block_table.specs.Table.{at}
 use Rattle.block_table.proofs.Row.{at-sweep, at-set}
@@ -47,7 +47,7 @@ use Rattle.block_handler.proofs.Frame.{WorldFits, key-within, call-fits}
 use Rattle.demands.specs.Demand3.{Handler, payloadOf, after, AllBytes, entryAt}
 use Rattle.demands.specs.Uploads.{joinedBy, takenBy, takenOn, allTaken, HandsWhatWasTaken}
 use Rattle.answers.specs.Parts.{partOf, bodyOf}
-use Rattle.demands.proofs.Runs.{all-front, all-behind, fresh-fits, after-fits}
+use Rattle.demands.proofs.Runs.{all-front, all-behind, fresh-entry, fresh-fits, after-fits}
 use Rattle.demands.proofs.Push.{shown-part}
 use Rattle.demands.proofs.Checks.{passed-next, first-starts, starts-first, meets-all, meets-afresh}
 use Rattle.demands.proofs.OwnStep.{held-after, appended, appended-length}
@@ -302,13 +302,10 @@ hands-what-was-taken c w calls q r b body strict fresh ab er e =
     let f : WorldFits c w = fresh-fits c w fresh in
     let before : AllBytes calls = all-front _ calls (q ∷ []) ab in
     let bytes : WhatBytes (request r) = rw er at (all-behind _ calls (q ∷ []) ab .0) in
-    let known : Known c w (q .key) [] = λ i i16 h. inl (rw (at-fresh i i16)) in
+    let known : Known c w (q .key) [] = λ i i16 h. inl (rw (fresh-entry w (fresh .table) i i16)) in
     let old : List ℕ = allTaken call c w (q .key) [] calls in
     let d : Done = call c (after call c w calls) q in
     rw (taken-cut call c (q .key) calls q w [], same-refl (q .key))
     (ap (λ (x : What). bodyOf (d .answer) (payloadOf x) (d .world .upload)) er
     ∙ handed-body c strict (after call c w calls) q old r b body (after-fits c calls w f before) bytes (known-run c strict (q .key) calls w [] f before known) er e
     ∙ ap (λ (x : What). takenBy x (d .answer) old) (sym er))
-  where
-    at-fresh : (i : ℕ) → i < 16 → entryAt w i ≡ free
-    at-fresh i i16 = rw (fresh .table) (getD-replicate 16 i free free i16)
