@@ -33,7 +33,7 @@ use Rattle.demands.specs.Clocks.{asks, requestsOn, runOn, OwnRising}
 use Rattle.demands.specs.Twice.{lastOf}
 use Rattle.demands.specs.Crossing.{inForm, counts, counted, seenCounted, UncountedRefused, among, AllAmong, FromFresh, Transfer, AllProper, callsOf, HandsAll}
 use Rattle.demands.specs.Crossing.{MorningsCross, SixteenCross, UncountedAreRefused}
-use Rattle.demands.proofs.Outcomes.{storing, storing-assembled, early-or-placed}
+use Rattle.demands.proofs.Outcomes.{storing-assembled, early-or-placed}
 use Rattle.demands.proofs.Runs.{asks-own, all-front, all-behind, seen-cut, none-seen, Cut, cut, rising-cut, rising-own, fresh-entry, fresh-fits, after-fits, after-clock}
 use Rattle.demands.proofs.Held.{Held}
 use Rattle.demands.proofs.Push.{Pushed, none-first, ready-first, pass, push-from, firstOf, blocks-follow}
@@ -61,7 +61,7 @@ idle-response c w k q r f mine is idle =
     let d : List ℕ = pieceOf (c .response) i (w .response) in
     let long : length (rowOf c w q) ≡ 16 = row-length c (w .table) (q .time) (f .table) (f .sixteen) in
     let none : s .assembled .len ≡ 0 = rw mine at (none-first c w k (q .time) f later (λ j b h l. idle j b h) (rw mine i16)) in
-    let step : stepResponse c s d r .state .assembled .len ≡ 0 = ap (λ (a : Assembled). a .len) (storing-assembled c s d r _ (storing c s d r)) ∙ none in
+    let step : stepResponse c s d r .state .assembled .len ≡ 0 = ap (λ (a : Assembled). a .len) (storing-assembled c s d r) ∙ none in
     rw is
     (λ j b.
     at-set (rowOf c w q) i _ (omega (arith, long)) (λ j e. holds k e ≡ true → e .state .assembled .len ≡ 0) (λ h. step)

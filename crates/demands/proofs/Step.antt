@@ -1,8 +1,8 @@
--- A request's step on a block that was agreed on, a law for each branch, and what the mode decides in it. Here and in Outcomes.antt alone the proofs look into the
--- step. Assumes nothing.
+-- What a step comes to, a law for each branch that the proofs need, and what the mode decides in it. Here and in Outcomes.antt alone they look into the steps. Assumes
+-- nothing.
 use Prim.Native.Nat.{ℕ}
-use mathlib.Core.Bool.{true, false, _&&_}
-use mathlib.Core.Path.{_≡_, refl, sym, _∙_}
+use mathlib.Core.Bool.{true, false, cond, _&&_}
+use mathlib.Core.Path.{_≡_, refl, sym, _∙_, ap}
 use mathlib.Core.List.{List}
 use lib.ListN.{length}
 use Rattle.splicing.specs.Splice.{spliceOf, pieceAfter}
@@ -10,22 +10,25 @@ use Rattle.splicing.specs.declared.Splice.{Splice}
 use Rattle.splicing.specs.declared.Splice.the-variants as splice
 use Rattle.block_value.specs.Value.{blockSize, blockStart}
 use Rattle.block_value.specs.declared.BlockValue.{BlockValue}
-use Rattle.negotiation.specs.Negotiation.{requestBlock}
+use Rattle.negotiation.specs.Negotiation.{requestBlock, negotiated}
 use Rattle.negotiation.specs.declared.MaybeBlock.{MaybeBlock}
 use Rattle.negotiation.specs.declared.MaybeBlock.the-variants.{Absent, Given}
 use Rattle.negotiation.specs.declared.Negotiated.{Negotiated}
 use Rattle.negotiation.specs.declared.Negotiated.the-variants as agreed
+use Rattle.negotiation.specs.declared.Chunk.{Chunk}
+use Rattle.negotiation.specs.declared.Chunk.the-variants as chunk
 use Rattle.block_state.specs.declared.Config.{Config}
 use Rattle.block_state.specs.declared.BlockState.{BlockState}
-use Rattle.block_state.specs.declared.Answer.the-variants.{Continue, Handed, Refused}
-use Rattle.block_state.specs.Message.{Request}
-use Rattle.block_state.specs.State.{assembly, withAssembled, withRecorded}
+use Rattle.block_state.specs.declared.Answer.the-variants.{Continue, Handed, Plain, Refused}
+use Rattle.block_state.specs.Message.{Request, Response}
+use Rattle.block_state.specs.State.{assembly, recordedBlock, withAssembled, withRecorded}
 use Rattle.block_state.specs.Step.{Left, left, bytesFrom}
 use Rattle.request_block1.specs.Block1.{badForm, notNext, lengthMet, block1Given}
 use Rattle.request_block1.proofs.Steps.{taken-more, taken-last, spliced-body, spliced-refused, given-bad, given-not-next, given-next}
 use Rattle.request_block2.proofs.Steps.{onward-absent}
 use Rattle.request_step.specs.Step.{onNegotiated, stepRequest}
 use Rattle.request_step.proofs.Steps as steps
+use Rattle.response_step.specs.Step.{chunked, onReply, stepResponse}
 use Rattle.demands.specs.Agreed.{requestAgrees}
 use Rattle.demands.specs.Strict.{plainly}
 
@@ -104,3 +107,27 @@ module _ (c : Config) (home away : ℕ) (s : BlockState) (u : List ℕ) (r : Req
   pub step-plainly : ((b : BlockValue) → requestBlock (r .block1) ≡ Given b → Unchecked b) → step ≡ stepRequest (plainly c) home away s u r
   unfolding stepRequest
   step-plainly unchecked = on-same (requestBlock (r .block1)) (requestAgrees c r) unchecked
+
+-- ---- a response's step
+
+module _ (c : Config) (s : BlockState) (d : List ℕ) (r : Response) where
+  pub response-unagreed : r .own ≡ false → (n : ℕ) → negotiated (recordedBlock (s .recorded)) (r .bare) (length (r .payload)) (c .limit) ≡ agreed.Refused n
+      → stepResponse c s d r ≡ left s d (Refused n)
+  unfolding stepResponse onReply
+  response-unagreed own n e = rw (own, e)
+
+  chunk-same : (ch : Chunk) → chunked c s d (r .head) (r .payload) ch ≡ chunked (plainly c) s d (r .head) (r .payload) ch
+  unfolding chunked
+  chunk-same (chunk.Refused n) = refl
+  chunk-same (chunk.Bytes b from to) = refl
+
+  reply-same : (n : Negotiated) → onReply c s d (r .head) (r .payload) n ≡ onReply (plainly c) s d (r .head) (r .payload) n
+  unfolding onReply
+  reply-same (agreed.Refused n) = refl
+  reply-same agreed.NoBlock = refl
+  reply-same (agreed.Block b) = chunk-same _
+
+  -- the mode decides nothing in it
+  pub response-plainly : stepResponse c s d r ≡ stepResponse (plainly c) s d r
+  unfolding stepResponse
+  response-plainly = ap (λ (g : Left). cond (r .own) (left s d Plain) g) (reply-same _)

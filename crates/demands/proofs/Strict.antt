@@ -1,7 +1,7 @@
 -- STRICT MODE SAYS NO. Assumes nothing.
 use Prim.Native.Nat.{ℕ, _+_, _*_, _%_, _≤_, _<_}
-use mathlib.Core.Bool.{true, false, cond, false≢true, _&&_}
-use mathlib.Core.Path.{_≡_, refl, ap}
+use mathlib.Core.Bool.{true, false, false≢true, _&&_}
+use mathlib.Core.Path.{_≡_, refl}
 use mathlib.Core.Logic.{inl, inr, ⊎-elim}
 use mathlib.Core.List.{List, [], _∷_}
 use mathlib.Core.Option.{Option, none as no-option, some}
@@ -14,26 +14,22 @@ use Rattle.block_value.specs.Value.{blockSize, readOf}
 use Rattle.block_value.specs.declared.BlockValue.{BlockValue}
 use Rattle.negotiation.specs.Negotiation.{requestBlock}
 use Rattle.negotiation.specs.declared.MaybeBlock.the-variants.{Given}
-use Rattle.negotiation.specs.declared.Negotiated.{Negotiated}
-use Rattle.negotiation.specs.declared.Chunk.{Chunk}
-use Rattle.negotiation.specs.declared.Chunk.the-variants as chunk
 use Rattle.negotiation.specs.declared.Negotiated.the-variants as agreed
 use Rattle.block_state.specs.declared.Config.{Config}
 use Rattle.block_state.specs.declared.Assembled.{Assembled}
 use Rattle.block_state.specs.declared.BlockState.{BlockState}
 use Rattle.block_state.specs.declared.Answer.{Answer}
-use Rattle.block_state.specs.declared.Answer.the-variants.{Plain, Refused}
+use Rattle.block_state.specs.declared.Answer.the-variants.{Refused}
 use Rattle.block_state.specs.Message.{Request, Response, request, response}
-use Rattle.block_state.specs.Step.{Left, left}
+use Rattle.block_state.specs.Step.{Left}
 use Rattle.request_block1.specs.Block1.{badForm, notNext}
-use Rattle.response_step.specs.Step.{chunked, onReply, stepResponse}
 use Rattle.places.specs.Places.{opened}
 use Rattle.block_handler.specs.Call.{World, Call, callAt, rowOf, call}
 use Rattle.demands.specs.Agreed.{requestAgrees}
 use Rattle.demands.specs.Touch.{RefusesTo}
 use Rattle.demands.specs.Strict.{tookBlock, assembledFor, RightlyTaken, BadlyFormed, Misplaced, PassesFive, plainly, Fine, StrictSaysNo}
 use Rattle.demands.proofs.Checks.{and-none, bad-is, bad-as, bad-not, not-bad, passed-next, misplaced-is, misplaced-as, meets-all}
-use Rattle.demands.proofs.Step.{step-bad, step-astray, Unchecked, step-plainly}
+use Rattle.demands.proofs.Step.{step-bad, step-astray, Unchecked, step-plainly, response-plainly}
 use Rattle.demands.proofs.Computes.{limits}
 use Rattle.demands.proofs.Outcomes.{TookBlock, Why, unagreed, badly, astray, unspliced, Outcome, refused, past, tooLarge, continued, onwards, serves, none, took, answered}
 use Rattle.demands.proofs.Touch.{refused-touches}
@@ -91,7 +87,7 @@ step-took c home away s u r g strict (serves t v _ _ _ x y from to (took b reply
 taken-rightly : (c : Config) (w : World) (q : Call) (r : Request) → c .strict ≡ true → q .what ≡ request r → tookBlock (call c w q .answer) ≡ true
     → (b : BlockValue) × RightlyTaken (assembledFor c w q) r b
 taken-rightly c w q r strict e =
-    answered (λ (a : Answer). tookBlock a ≡ true → (b : BlockValue) × RightlyTaken (assembledFor c w q) r b) c w q r e (λ n _ h. absurd (false≢true h))
+    answered (λ (a : Answer). tookBlock a ≡ true → (b : BlockValue) × RightlyTaken (assembledFor c w q) r b) c w q (λ n _ h. absurd (false≢true h)) r e
     (λ home away u g o. step-took c home away _ u r g strict o)
 
 -- ---- a block that is refused
@@ -144,12 +140,12 @@ module _ (c : Config) (w : World) (q : Call) (r : Request) (asks : q .what ≡ r
 
   ten-only : call c w q .answer ≡ Refused 10 → Ten
   ten-only =
-      answered (λ (a : Answer). a ≡ Refused 10 → Ten) c w q r asks (λ n h e. let z : n ≡ 10 = same-number n 10 e in absurd (omega (arith, h .1)))
+      answered (λ (a : Answer). a ≡ Refused 10 → Ten) c w q (λ n h e. let z : n ≡ 10 = same-number n 10 e in absurd (omega (arith, h .1))) r asks
       (λ home away u g o. reason home away _ u refl Ten 10 (λ e. omega arith) (why-ten home away _ u refl) g o)
 
   nine-only : call c w q .answer ≡ Refused 9 → Nine
   nine-only =
-      answered (λ (a : Answer). a ≡ Refused 9 → Nine) c w q r asks (λ n h e. let z : n ≡ 9 = same-number n 9 e in absurd (omega (arith, h .1)))
+      answered (λ (a : Answer). a ≡ Refused 9 → Nine) c w q (λ n h e. let z : n ≡ 9 = same-number n 9 e in absurd (omega (arith, h .1))) r asks
       (λ home away u g o. reason home away _ u refl Nine 9 (λ e. omega arith) (why-nine home away _ u refl) g o)
 
 -- ---- all else is as in plain mode
@@ -169,25 +165,9 @@ all-else : (c : Config) (w : World) (q : Call) (r : Request) → q .what ≡ req
 unfolding limits call callAt
 all-else c w q r e f = rw (e, step-plainly c _ _ (opened (q .key) (rowOf c w q) .state) _ r (λ b given. unchecked c _ _ _ _ r b (f b given)))
 
-module _ (c : Config) (s : BlockState) (d : List ℕ) (r : Response) where
-  chunk-same : (ch : Chunk) → chunked c s d (r .head) (r .payload) ch ≡ chunked (plainly c) s d (r .head) (r .payload) ch
-  unfolding chunked
-  chunk-same (chunk.Refused n) = refl
-  chunk-same (chunk.Bytes b from to) = refl
-
-  reply-same : (n : Negotiated) → onReply c s d (r .head) (r .payload) n ≡ onReply (plainly c) s d (r .head) (r .payload) n
-  unfolding onReply
-  reply-same (agreed.Refused n) = refl
-  reply-same agreed.NoBlock = refl
-  reply-same (agreed.Block b) = chunk-same _
-
-  response-same : stepResponse c s d r ≡ stepResponse (plainly c) s d r
-  unfolding stepResponse
-  response-same = ap (λ (g : Left). cond (r .own) (left s d Plain) g) (reply-same _)
-
 of-responses : (c : Config) (w : World) (q : Call) (r : Response) → q .what ≡ response r → call c w q ≡ call (plainly c) w q
 unfolding limits call callAt
-of-responses c w q r e = rw (e, response-same c (opened (q .key) (rowOf c w q) .state) _ r)
+of-responses c w q r e = rw (e, response-plainly c (opened (q .key) (rowOf c w q) .state) _ r)
 
 -- STRICT MODE SAYS NO
 pub strict-says-no : StrictSaysNo call

@@ -52,7 +52,7 @@ use Rattle.demands.proofs.Push.{shown-part}
 use Rattle.demands.proofs.Checks.{passed-next, first-starts, starts-first, meets-all, meets-afresh}
 use Rattle.demands.proofs.OwnStep.{held-after, appended, appended-length}
 use Rattle.demands.proofs.Outcomes.{TookBlock, spliced-by, none, took, Outcome, refused, past, tooLarge}
-use Rattle.demands.proofs.Outcomes.{continued, onwards, serves, outcome, storing, storing-assembled, early-or-placed, cond-same}
+use Rattle.demands.proofs.Outcomes.{continued, onwards, serves, outcome, storing-assembled, early-or-placed, cond-same}
 
 -- ---- a block that was taken, in strict mode
 
@@ -237,7 +237,7 @@ module _ (c : Config) (strict : c .strict ≡ true) (w : World) (q : Call) (k ol
     placed (request r) hb i i16 = of-request r (hb .0) (hb .1) i i16
     placed (response r) hb i i16 =
         let d : List ℕ = pieceOf (c .response) here (w .response) in
-        rw (cond-same (same k (q .key)) old) (of-response _ (storing-assembled c (e .state) d r _ (storing c (e .state) d r)) i i16)
+        rw (cond-same (same k (q .key)) old) (of-response _ (storing-assembled c (e .state) d r) i i16)
 
   refused-taken : (n : ℕ) → takenOn k old q (Refused n) ≡ old
   refused-taken n = as-it-was (q .what)
