@@ -57,6 +57,10 @@ not-bad b p good bad = clash-of (badForm b p) (bad-is b p bad) good
 abbrev pub NextAt : ℕ → ℕ → BlockValue → Type 0
 NextAt len kept b = (blockStart b ≡ len) × (b .«size_exponent» ≡ kept)
 
+-- so is a block of the same size that starts there
+pub next-same : (len : ℕ) (b : BlockValue) → blockStart b ≡ len → NextAt len (b .«size_exponent») b
+next-same len b start = (start, refl)
+
 -- strict mode lets it pass, and no other block but block 0
 pub next-passes : (a : Assembled) (b : BlockValue) → NextAt (a .len) (a .exponent) b → notNext a b ≡ false
 unfolding notNext

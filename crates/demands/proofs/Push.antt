@@ -45,7 +45,7 @@ use Rattle.demands.specs.Demand3.{HasLive, HasFree, NothingInPlain, Bloc
 use Rattle.demands.specs.Clocks.{requestsOn, runOn, OwnRising}
 use Rattle.demands.specs.Touch.{HandsTo}
 use Rattle.demands.specs.Twice.{lastOf}
-use Rattle.demands.proofs.Checks.{NextAt}
+use Rattle.demands.proofs.Checks.{NextAt, next-same}
 use Rattle.demands.proofs.OwnStep.{OneBlock, fills-most, Meets, meets-first, UnderWay, meets-next, held-after, own-more, own-last, under-way}
 use Rattle.demands.proofs.Runs.{asks-own, all-front, all-behind, after-cut, seen-cut, none-seen, Cut, cut, rising-cut, after-clock}
 use Rattle.demands.proofs.Held.{Held, held-place, held-opened, held-others}
@@ -338,8 +338,9 @@ firstOf x rest = block 0 (marked rest) x
 follow-on : (c : Config) (x j : ℕ) (s : Sent) (rest : List Sent) → Each (λ j more r. OneBlock c (block j more x) r) j s rest → Follow c (block j (marked rest) x) s rest
 follow-on c x j s [] each = (each, refl)
 follow-on c x j s (t ∷ rest) each =
-    let ends : suc j * sizeOf x ≡ j * sizeOf x + length (s .message .payload) = omega (arith, each .0 .full) in
-    (each .0, refl, block (suc j) (marked rest) x, (ends, refl), follow-on c x (suc j) t rest (each .1))
+    let next : BlockValue = block (suc j) (marked rest) x in
+    let ends : blockStart next ≡ j * sizeOf x + length (s .message .payload) = omega (arith, each .0 .full) in
+    (each .0, refl, next, next-same _ next ends, follow-on c x (suc j) t rest (each .1))
 
 pub blocks-follow : (c : Config) (x : ℕ) (first : Sent) (rest : List Sent) → Blocks c x first rest → Follow c (firstOf x rest) first rest
 blocks-follow c x first rest b = follow-on c x 0 first rest (each-block c x first rest b)
