@@ -9,13 +9,7 @@ use Rattle.block_value.specs.declared.BlockValue.{BlockValue}
 use Rattle.negotiation.specs.Chunk.{chunkBlock}
 use Rattle.negotiation.specs.declared.MaybeBlock.the-variants.{Absent, Given}
 use Rattle.negotiation.specs.declared.Negotiated.the-variants as agreed
-<<<<<<< HEAD
-use Rattle.negotiation.specs.declared.Chunk.{Chunk}
-use Rattle.negotiation.specs.declared.Chunk.the-variants as chunk
 use Rattle.config.specs.declared.Config.{Config}
-=======
-use Rattle.config.specs.declared.Config.{Config}
->>>>>>> da0dd12114050c6c883fe609222d4748badc3941
 use Rattle.block_state.specs.declared.BlockState.{BlockState}
 use Rattle.block_state.specs.declared.Answer.{Answer}
 use Rattle.block_state.specs.declared.Answer.the-variants.{Refused}

@@ -14,27 +14,16 @@ use Rattle.splicing.specs.Splice as pieces
 use Rattle.splicing.specs.declared.Splice.the-variants.{Body}
 use Rattle.pieces.proofs.Memory.{drop-part}
 use Rattle.splicing.proofs.Splicing as splicing
-<<<<<<< HEAD
-use Rattle.block_value.specs.Value.{sizeOf}
-use Rattle.negotiation.specs.declared.MaybeBlock.the-variants.{Absent, Given}
-use Rattle.negotiation.specs.declared.Negotiated.the-variants.{Block}
-use Rattle.config.specs.declared.Config.{Config}
-=======
 use Rattle.block_value.specs.Value.{sizeOf, blockSize, blockStart}
 use Rattle.block_value.specs.declared.BlockValue.{BlockValue}
 use Rattle.negotiation.specs.declared.MaybeBlock.the-variants.{Absent}
 use Rattle.config.specs.declared.Config.{Config}
->>>>>>> da0dd12114050c6c883fe609222d4748badc3941
 use Rattle.block_state.specs.declared.BlockState.{BlockState}
 use Rattle.block_state.specs.declared.Answer.the-variants.{Continue, Handed}
 use Rattle.block_state.specs.Message.{Request}
 use Rattle.block_state.specs.State.{assembly, withAssembled, withRecorded}
 use Rattle.block_state.specs.Step.{Left, left, bytesFrom}
-<<<<<<< HEAD
-use Rattle.request_step.specs.Block1.{lengthMet, taken}
-=======
 use Rattle.request_step.specs.Block1.{lengthMet}
->>>>>>> da0dd12114050c6c883fe609222d4748badc3941
 use Rattle.request_step.specs.Step.{stepRequest}
 use Rattle.pieces.proofs.Tests.{clash-of}
 use Rattle.block_handler.specs.Call.{call}

@@ -29,11 +29,7 @@ use Rattle.block_state.specs.declared.Answer.the-variants.{Continue, Handed}
 use Rattle.block_state.specs.Message.{Request}
 use Rattle.block_state.specs.State.{assembly, withAssembled, withRecorded}
 use Rattle.block_state.specs.Step.{left, bytesFrom}
-<<<<<<< HEAD
-use Rattle.request_step.specs.Block1.{badForm, notNext, lengthMet, taken, block1Given}
-=======
 use Rattle.request_step.specs.Block1.{badForm, notNext, lengthMet}
->>>>>>> da0dd12114050c6c883fe609222d4748badc3941
 use Rattle.request_step.specs.Step.{stepRequest}
 use Rattle.demands.specs.Demand3.{block, Fills}
 use Rattle.demands.specs.Agreed.{requestAgrees}

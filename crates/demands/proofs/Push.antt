@@ -17,12 +17,8 @@ use Rattle.block_value.specs.declared.BlockValue.{BlockValue}
 use Rattle.block_value.proofs.Laws.{size-most}
 use Rattle.negotiation.specs.Negotiation.{requestBlock}
 use Rattle.negotiation.specs.declared.MaybeBlock.the-variants.{Absent, Given}
-<<<<<<< HEAD
-use Rattle.config.specs.declared.Config.{Config}
-=======
 use Rattle.config.specs.declared.Config.{Config}
 use Rattle.block_state.specs.declared.BlockState.{BlockState}
->>>>>>> da0dd12114050c6c883fe609222d4748badc3941
 use Rattle.block_state.specs.Message.{Request, request, WhatBytes}
 use Rattle.block_state.specs.Answers.{said, continue}
 use Rattle.block_state.specs.State.{assembly}

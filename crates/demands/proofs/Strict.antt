@@ -21,17 +21,8 @@ use Rattle.block_state.specs.declared.BlockState.{BlockState}
 use Rattle.block_state.specs.declared.Answer.{Answer}
 use Rattle.block_state.specs.declared.Answer.the-variants.{Refused}
 use Rattle.block_state.specs.Message.{Request, Response, request, response}
-<<<<<<< HEAD
-use Rattle.block_state.specs.Step.{Left, left}
-use Rattle.request_step.specs.Block1.{badForm, notNext, lengthMet, block1Given}
-use Rattle.request_block1.proofs.Steps.{given-bad, given-not-next, given-next}
-use Rattle.request_step.specs.Step.{onNegotiated, stepRequest}
-use Rattle.request_step.proofs.Steps.{request-given}
-use Rattle.response_step.specs.Step.{chunked, onReply, stepResponse}
-=======
 use Rattle.block_state.specs.Step.{Left}
 use Rattle.request_step.specs.Block1.{badForm, notNext}
->>>>>>> da0dd12114050c6c883fe609222d4748badc3941
 use Rattle.places.specs.Places.{opened}
 use Rattle.block_handler.specs.Call.{World, Call, callAt, rowOf, call}
 use Rattle.demands.specs.Agreed.{requestAgrees}

@@ -13,29 +13,16 @@ use Rattle.pieces.proofs.Tests.{clash-of}
 use Rattle.splicing.specs.Splice.{spliced, splicedLength, pieceAfter}
 use Rattle.splicing.specs.declared.Splice.the-variants.{Body}
 use Rattle.splicing.proofs.Splicing as splicing
-<<<<<<< HEAD
-use Rattle.block_value.specs.Value.{sizeOf}
-use Rattle.block_value.proofs.Laws.{size-least}
-use Rattle.negotiation.specs.declared.MaybeBlock.the-variants.{Absent, Given}
-use Rattle.config.specs.declared.Config.{Config}
-=======
 use Rattle.block_value.specs.Value.{sizeOf, blockSize, blockStart}
 use Rattle.block_value.specs.declared.BlockValue.{BlockValue}
 use Rattle.negotiation.specs.declared.MaybeBlock.the-variants.{Absent}
 use Rattle.config.specs.declared.Config.{Config}
->>>>>>> da0dd12114050c6c883fe609222d4748badc3941
 use Rattle.block_state.specs.declared.BlockState.{BlockState}
 use Rattle.block_state.specs.declared.Answer.the-variants.{Handed, Refused}
 use Rattle.block_state.specs.Message.{Request, request, WhatBytes}
 use Rattle.block_state.specs.State.{assembly, withAssembled, withRecorded}
 use Rattle.block_state.specs.Step.{left, bytesFrom}
-<<<<<<< HEAD
-use Rattle.request_step.specs.Block1.{notNext, lengthMet, onSplice}
-use Rattle.request_block1.proofs.Steps.{taken-last, spliced-body, spliced-refused, given-next, given-not-next}
-use Rattle.request_block2.proofs.Steps.{onward-absent}
-=======
 use Rattle.request_step.specs.Block1.{notNext, lengthMet}
->>>>>>> da0dd12114050c6c883fe609222d4748badc3941
 use Rattle.request_step.specs.Step.{stepRequest}
 use Rattle.keys.specs.Keys.{keyOk}
 use Rattle.entries.specs.declared.Entry.{Entry}

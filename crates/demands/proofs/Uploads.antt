@@ -28,11 +28,7 @@ use Rattle.block_state.specs.Message.{Request, What, request, response, OptionB
 use Rattle.block_state.specs.State.{assembledOk}
 use Rattle.block_state.proofs.Fits.{StateFits}
 use Rattle.block_state.specs.Step.{Left, bytesFrom}
-<<<<<<< HEAD
-use Rattle.request_step.specs.Block1.{notNext, lengthMet}
-=======
 use Rattle.request_step.specs.Block1.{lengthMet}
->>>>>>> da0dd12114050c6c883fe609222d4748badc3941
 use Rattle.request_step.specs.Step.{stepRequest}
 use Rattle.request_step.proofs.StepKeeps.{request-keeps}
 use Rattle.keys.specs.Keys.{same}
