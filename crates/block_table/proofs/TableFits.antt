@@ -5,7 +5,7 @@ use mathlib.Core.Path.{_≡_, _∙_}
 use mathlib.Core.List.{List}
 use native.Mathlib.Omega.{arith}
 use lib.ListN.{length, replicate, getD-replicate}
-use Rattle.block_state.specs.declared.Config.{Config}
+use Rattle.config.specs.declared.Config.{Config}
 use Rattle.pieces.proofs.Tests.{ands, and-both}
 use Rattle.entries.specs.declared.Entry.{Entry}
 use Rattle.block_table.specs.declared.Table.{Table}

@@ -1,5 +1,5 @@
 // The checks 1, 2 and 3 before a step, and the key's place.
-use block_state::Config;
+use config::Config;
 use places::Place;
 use places::Sight;
 ghost use mathlib.Core.Path.{_≡_};
