@@ -1,41 +1,45 @@
 // The bytes that an answer shows, lent and never copied: empty where the answer has none, or names a part that isn't there.
-use crate::Shows;
 use crate::Source;
 use block_state::Answer;
+use block_state::Part;
+use block_state::apart;
 ghost use mathlib.Core.Path.{_≡_};
-ghost use Rattle.answers.specs.Parts.{shows, shownBy, bytesOf, bodyOf, servedHead, servedChunk, sentBytes};
+ghost use Rattle.answers.specs.Parts.{sourceIf, bodySource, servedSource, sentSource, bytesOf, bodyOf, servedHead, servedChunk, sentBytes};
 
-fn shown(body: Source, head: Source, chunk: Source, sent: Source) -> Shows
-    ensures { λ r. ⌜ r ≡ shows body head chunk sent ⌝ }
+fn source(shown: bool, part: Part) -> Source
+    ensures { λ r. ⌜ r ≡ sourceIf shown part ⌝ }
 {
-    Shows {
-        body,
-        head,
-        chunk,
-        sent,
+    if shown {
+        return Source::Within(part);
     }
+    Source::Nothing
 }
 
-fn shown_by(answer: Answer) -> Shows
-    ensures { λ r. ⌜ r ≡ shownBy answer ⌝ }
+// What an answer of this number and part shows as its body: the message's payload for Pass (4), the part for Handed (3).
+pub fn body_source(kind: u8, part: Part) -> Source
+    ensures { λ r. ⌜ r ≡ bodySource kind part ⌝ }
 {
-    let no = Source::Nothing;
-    match answer {
-        Answer::Continue(_) => shown(no, no, no, no),
-        Answer::TooLarge(_) => shown(no, no, no, no),
-        Answer::Handed(_, body) => shown(Source::Within(body), no, no, no),
-        Answer::Pass => shown(Source::Message, no, no, no),
-        Answer::Served(_, _, head, chunk) => shown(
-            no,
-            Source::Within(head),
-            Source::Within(chunk),
-            no,
-        ),
-        Answer::Plain => shown(no, no, no, Source::Message),
-        Answer::Whole(_, chunk) => shown(no, no, no, Source::Within(chunk)),
-        Answer::First(_, chunk) => shown(no, no, no, Source::Within(chunk)),
-        Answer::Refused(_) => shown(no, no, no, no),
+    if kind == 4 {
+        return Source::Message;
     }
+    source(kind == 3, part)
+}
+
+// The part, or the head, of Served (5).
+pub fn served_source(kind: u8, part: Part) -> Source
+    ensures { λ r. ⌜ r ≡ servedSource kind part ⌝ }
+{
+    source(kind == 5, part)
+}
+
+// What a response sends of its own payload: all of it for Plain (6), the part for Whole (7) and First (8).
+pub fn sent_source(kind: u8, part: Part) -> Source
+    ensures { λ r. ⌜ r ≡ sentSource kind part ⌝ }
+{
+    if kind == 6 {
+        return Source::Message;
+    }
+    source((kind == 7) | (kind == 8), part)
 }
 
 fn bytes_of<'a>(source: Source, message: &'a [u8], memory: &'a [u8]) -> &'a [u8]
@@ -52,34 +56,50 @@ fn bytes_of<'a>(source: Source, message: &'a [u8], memory: &'a [u8]) -> &'a [u8]
 pub fn body<'a>(answer: Answer, payload: &'a [u8], upload: &'a [u8]) -> &'a [u8]
     ensures { λ r. ⌜ now r ≡ bodyOf answer (now (payload .entry)) (now (upload .entry)) ⌝ }
 {
-    let by = shown_by(answer);
-    let source = by.body;
-    bytes_of(source, payload, upload)
+    let s = apart::said(answer);
+    let kind = s.kind;
+    let part = s.part;
+    bytes_of(body_source(apart::kind_number(kind), part), payload, upload)
 }
 
 // The head of the cached response that a Served answer goes out under, of the response memory.
 pub fn served_head(answer: Answer, response: &[u8]) -> &[u8]
     ensures { λ r. ⌜ now r ≡ servedHead answer (now (response .entry)) ⌝ }
 {
-    let by = shown_by(answer);
-    let source = by.head;
-    bytes_of(source, response, response)
+    let s = apart::said(answer);
+    let kind = s.kind;
+    let head = s.head;
+    bytes_of(
+        served_source(apart::kind_number(kind), head),
+        response,
+        response,
+    )
 }
 
 // The chunk of a Served answer, of the response memory.
 pub fn served_chunk(answer: Answer, response: &[u8]) -> &[u8]
     ensures { λ r. ⌜ now r ≡ servedChunk answer (now (response .entry)) ⌝ }
 {
-    let by = shown_by(answer);
-    let source = by.chunk;
-    bytes_of(source, response, response)
+    let s = apart::said(answer);
+    let kind = s.kind;
+    let part = s.part;
+    bytes_of(
+        served_source(apart::kind_number(kind), part),
+        response,
+        response,
+    )
 }
 
 // What a response sends of its own payload: all of it after Plain, the chunk after First and Whole.
 pub fn sent_bytes(answer: Answer, payload: &[u8]) -> &[u8]
     ensures { λ r. ⌜ now r ≡ sentBytes answer (now (payload .entry)) ⌝ }
 {
-    let by = shown_by(answer);
-    let source = by.sent;
-    bytes_of(source, payload, payload)
+    let s = apart::said(answer);
+    let kind = s.kind;
+    let part = s.part;
+    bytes_of(
+        sent_source(apart::kind_number(kind), part),
+        payload,
+        payload,
+    )
 }

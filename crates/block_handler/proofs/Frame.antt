@@ -11,7 +11,7 @@ use lib.Dec.{leb, ltb}
 use borrow.Author.Tests.{ltb-false, leb-false, eqb-true, le-ltb, lt-leb, eq-eqb, leb-true}
 use Rattle.pieces.specs.Memory.{pieceOf}
 use Rattle.pieces.proofs.Memory.{piece-order, length-piece, length-put, piece-put-same, piece-put-other}
-use Rattle.block_state.specs.declared.Config.{Config}
+use Rattle.config.specs.declared.Config.{Config}
 use Rattle.block_state.specs.declared.Answer.the-variants.{Refused}
 use Rattle.block_state.specs.Message.{Request, Response, What, request, response, WhatBytes}
 use Rattle.block_state.specs.Step.{Left}

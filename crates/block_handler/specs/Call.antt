@@ -2,10 +2,10 @@
 use Prim.Native.Nat.{ℕ, _*_}
 use mathlib.Core.Bool.{Bool, cond, not, _&&_}
 use mathlib.Core.List.{List}
-use lib.ListN.{length, set}
+use lib.ListN.{length}
 use lib.Dec.{leb, ltb}
 use Rattle.pieces.specs.Memory.{pieceOf, putPiece}
-use Rattle.block_state.specs.declared.Config.{Config}
+use Rattle.config.specs.declared.Config.{Config}
 use Rattle.block_state.specs.declared.BlockState.{BlockState}
 use Rattle.block_state.specs.declared.Answer.{Answer}
 use Rattle.block_state.specs.declared.Answer.the-variants.{Refused}
@@ -18,7 +18,7 @@ use Rattle.entries.specs.declared.Entry.{Entry}
 use Rattle.block_table.specs.declared.Table.{Table}
 use Rattle.keys.specs.Keys.{keyOk}
 use Rattle.entries.specs.Entries.{inUse}
-use Rattle.block_table.specs.Table.{tableOk, sweep}
+use Rattle.block_table.specs.Table.{tableOk, sweep, tableWith}
 use Rattle.places.specs.Places.{place, opened}
 use Rattle.judge.specs.Limits.{configOk, memoriesOk}
 
@@ -55,7 +55,7 @@ withinLimits c w q =
 
 -- The table with entry i in use for its key, touched now, in this state: the touch, and what the step made of the state.
 abbrev pub tableAfter : List Entry → ℕ → ℕ → Key → BlockState → Table
-tableAfter row time i key s = record { clock = time; entries = set row i (inUse key time s) }
+tableAfter row time i key s = tableWith time row i (inUse key time s)
 
 -- What a request's step leaves, put back at entry i: its piece of the upload memory. The response memory stays.
 abbrev pub requestLeft : Config → World → ℕ → List Entry → ℕ → Key → Left → Done

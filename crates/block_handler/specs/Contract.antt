@@ -1,28 +1,38 @@
 -- The contract of a public call: its result and every byte of both memories are the definition's.
-use Prim.Native.Nat.{ℕ}
-use mathlib.Core.Bool.{Bool, cond}
+use Prim.Native.Nat.{ℕ, _*_}
+use mathlib.Core.Bool.{cond}
 use mathlib.Core.Path.{_≡_}
 use mathlib.Core.List.{List}
-use lib.ListN.{set}
-use Rattle.block_state.specs.declared.Config.{Config}
+use Rattle.pieces.specs.Memory.{pieceOf}
+use Rattle.config.specs.declared.Config.{Config}
 use Rattle.block_state.specs.declared.Answer.{Answer}
+use Rattle.block_state.specs.declared.RequestNumbers.{RequestNumbers}
+use Rattle.block_state.specs.declared.ResponseNumbers.{ResponseNumbers}
 use Rattle.block_state.specs.Message.{request, response}
 use Rattle.block_state.specs.Contract.{asking, replying}
+use Rattle.block_state.specs.declared.Stepped.{Stepped}
+use Rattle.block_state.specs.State.{nothing}
+use Rattle.request_step.specs.declared.Asked.{Asked}
+use Rattle.request_step.specs.Step.{stepWith}
+use Rattle.keys.specs.declared.Key.{Key}
+use Rattle.keys.specs.Keys.{stored}
+use Rattle.entries.specs.declared.Entry.{Entry}
+use Rattle.entries.specs.Entries.{inUse, swept}
 use Rattle.block_table.specs.declared.Table.{Table}
-use Rattle.block_table.specs.Table.{sweep}
+use Rattle.block_table.specs.Table.{sweep, tableWith}
+use Rattle.places.specs.declared.Sight.{Sight}
 use Rattle.block_handler.specs.declared.Change.{Change}
-use Rattle.block_handler.specs.Call.{World, Call, done, call}
+use Rattle.block_handler.specs.Call.{World, Call, Done, done, requestLeft, call}
 
 abbrev pub world : Table → List ℕ → List ℕ → World
 world t u d = record { table = t; upload = u; response = d }
 
 -- A request and a response, as the code's parameters make them.
-abbrev pub requestCall : ℕ → List ℕ → ℕ → Bool → List ℕ → Bool → List ℕ → List ℕ → Call
-requestCall time key bare given1 block1 given2 block2 payload =
-    record { time = time; key = key; what = request (asking bare given1 block1 given2 block2 payload) }
+abbrev pub requestCall : RequestNumbers → List ℕ → List ℕ → List ℕ → List ℕ → Call
+requestCall q key block1 block2 payload = record { time = q .time; key = key; what = request (asking q block1 block2 payload) }
 
-abbrev pub responseCall : ℕ → List ℕ → ℕ → Bool → List ℕ → List ℕ → Call
-responseCall time key bare own head payload = record { time = time; key = key; what = response (replying bare own head payload) }
+abbrev pub responseCall : ResponseNumbers → List ℕ → List ℕ → List ℕ → Call
+responseCall q key head payload = record { time = q .time; key = key; what = response (replying q head payload) }
 
 -- From this table and these memories, the call leaves those and answers so.
 abbrev pub Meant : Config → World → Call → World → Answer → Type 0
@@ -30,5 +40,20 @@ Meant c w q w′ a = done w′ a ≡ call c w q
 
 -- The table with a call's change made.
 abbrev pub changed : ℕ → ℕ → Table → Change → Table
-changed lifetime time t g =
-    record { clock = g .clock; entries = set (cond (g .freed) (sweep lifetime time (t .entries)) (t .entries)) (g .at) (g .entry) }
+changed lifetime time t g = tableWith (g .clock) (cond (g .freed) (sweep lifetime time (t .entries)) (t .entries)) (g .at) (g .entry)
+
+-- ---- How the code makes a call at its place. No contract of the two calls cites these.
+
+-- The entry that a call on the key starts from, of the one at its place before the sweep.
+abbrev pub openedFrom : ℕ → ℕ → List ℕ → Entry → Entry
+openedFrom lifetime time key e = cond (swept lifetime time e .used) (swept lifetime time e) (inUse (stored key) 0 nothing)
+
+-- What a step on the entry at i leaves, as a change.
+abbrev pub changeTo : Sight → ℕ → ℕ → Key → Stepped → Change
+changeTo s i time key g = record { freed = s .freed; clock = time; at = i; entry = inUse key time (g .state); answer = g .answer }
+
+-- A request at its place i in the swept row, where it starts from entry e, with its options read.
+abbrev pub askedAt : Config → World → List Entry → ℕ → Entry → Asked → List ℕ → Done
+askedAt c w row i e q payload =
+    requestLeft c w (q .time) row i (e .key)
+    (stepWith c (i * c .upload) (i * c .response) (e .state) (pieceOf (c .upload) i (w .upload)) (q .bare) (q .block1) (q .block2) payload)

@@ -2,26 +2,29 @@
 use crate::Change;
 use crate::Outcome;
 use block_state::Answer;
-use block_state::BlockState;
-use block_state::Config;
+use block_state::RequestNumbers;
+use block_state::ResponseNumbers;
+use block_state::Stepped;
 use block_table::Table;
+use config::Config;
 use entries::Entry;
+use judge::Lengths;
 use judge::Verdict;
 use keys::Key;
 use places::Sight;
+use request_step::Asked;
 ghost use mathlib.Core.Path.{_≡_};
 ghost use mathlib.Core.List.{List};
-ghost use Prim.Native.Nat.{ℕ, _<_};
+ghost use Prim.Native.Nat.{ℕ, _≤_, _<_};
 ghost use lib.ListN.{length};
-ghost use Rattle.block_state.specs.Message.{request};
-ghost use Rattle.block_state.specs.Contract.{asking, replying};
-ghost use Rattle.entries.specs.Entries.{inUse};
+ghost use Rattle.block_state.specs.Message.{response};
+ghost use Rattle.block_state.specs.Contract.{replying};
 ghost use Rattle.block_table.specs.Table.{sweep};
 ghost use Rattle.places.specs.Places.{opened};
 ghost use Rattle.places.specs.Sight.{Sees};
+ghost use Rattle.judge.specs.Verdict.{lengths, HasPlace};
 ghost use Rattle.block_handler.specs.Call.{done, callAt};
-ghost use Rattle.judge.specs.Verdict.{HasPlace};
-ghost use Rattle.block_handler.specs.Contract.{world, requestCall, responseCall, Meant, changed};
+ghost use Rattle.block_handler.specs.Contract.{world, requestCall, responseCall, Meant, changed, openedFrom, changeTo, askedAt};
 
 // A refusal changes nothing: the entry that is seen is put back where it stood.
 fn refused(sight: Sight, n: u8) -> Change
@@ -38,39 +41,50 @@ fn refused(sight: Sight, n: u8) -> Change
     }
 }
 
-// An entry in use, touched now.
-fn touched(key: Key, time: u64, state: BlockState) -> Entry
-    ensures { λ r. ⌜ r ≡ inUse key time state ⌝ }
+// The entry that a call at its place starts from.
+fn opened_entry(config: Config, sight: Sight, time: u64, key: &[u8]) -> Entry
+    requires { ⌜ length (now key) ≤ 64 ⌝ }
+    ensures { λ r. ⌜ r ≡ openedFrom (config .lifetime) time (now (key .entry)) (sight .entry) ⌝ }
 {
-    Entry {
+    let old = sight.entry;
+    entries::start_from(entries::swept_entry(old, config.lifetime, time), key)
+}
+
+// What a step on the entry at i leaves: the entry is in use for its key, and touched now.
+fn leave(sight: Sight, i: usize, time: u64, key: Key, step: Stepped) -> Change
+    ensures { λ r. ⌜ r ≡ changeTo sight i time key step ⌝ }
+{
+    let state = step.state;
+    let entry = Entry {
         key: key,
         used: true,
         touched: time,
         state: state,
+    };
+    let answer = step.answer;
+    Change {
+        freed: sight.freed,
+        clock: time,
+        at: i,
+        entry,
+        answer,
     }
 }
 
 // A request at its place: the step on entry i and on its piece, put back.
-fn request_at<'a>(
+fn request_at(
     config: Config,
     sight: Sight,
     upload: &mut [u8],
-    v: usize,
-    time: u64,
-    key: &'a [u8],
+    key: &[u8],
     i: usize,
-    bare: usize,
-    given1: bool,
-    block1: &'a [u8],
-    given2: bool,
-    block2: &'a [u8],
-    payload: &'a [u8],
+    asked: Asked,
+    payload: &[u8],
 ) -> Change
-    requires { ⌜ ((t : Table) × HasPlace config sight (length (now upload)) v time (now key) bare (length (now payload)) 0 i t) ⌝ }
-    ensures { λ r. ⌜ ((t : Table) → HasPlace config sight (length (now (upload .entry))) v time (now (key .entry)) bare (length (now (payload .entry))) 0 i t → (d : List ℕ) → done (world (changed (config .lifetime) time t r) (now (upload .exit)) d) (r .answer) ≡ callAt config (world t (now (upload .entry)) d) time (sweep (config .lifetime) time (t .entries)) i (opened (now (key .entry)) (sweep (config .lifetime) time (t .entries))) (request (asking bare given1 (now (block1 .entry)) given2 (now (block2 .entry)) (now (payload .entry))))) × (r .at ≡ i) ⌝ }
+    requires { ⌜ ((v : ℕ) × (t : Table) × HasPlace config sight (asked .time) (now key) (lengths (length (now upload)) v (asked .bare) (length (now payload)) 0) i t) ⌝ }
+    ensures { λ r. ⌜ ((v : ℕ) (t : Table) → HasPlace config sight (asked .time) (now (key .entry)) (lengths (length (now (upload .entry))) v (asked .bare) (length (now (payload .entry))) 0) i t → (d : List ℕ) → done (world (changed (config .lifetime) (asked .time) t r) (now (upload .exit)) d) (r .answer) ≡ askedAt config (world t (now (upload .entry)) d) (sweep (config .lifetime) (asked .time) (t .entries)) i (opened (now (key .entry)) (sweep (config .lifetime) (asked .time) (t .entries))) asked (now (payload .entry))) × (r .at ≡ i) ⌝ }
 {
-    let old = sight.entry;
-    let e = entries::start_from(entries::swept_entry(old, config.lifetime, time), key);
+    let e = opened_entry(config, sight, asked.time, key);
     let state = e.state;
     let home = i * config.upload;
     let away = i * config.response;
@@ -81,24 +95,11 @@ fn request_at<'a>(
         away,
         state,
         &mut upload[home..end],
-        bare,
-        given1,
-        block1,
-        given2,
-        block2,
+        asked,
         payload,
     );
     let stored = e.key;
-    let left = step.state;
-    let entry = touched(stored, time, left);
-    let answer = step.answer;
-    Change {
-        freed: sight.freed,
-        clock: time,
-        at: i,
-        entry,
-        answer,
-    }
+    leave(sight, i, asked.time, stored, step)
 }
 
 // A response at its place.
@@ -106,20 +107,16 @@ fn response_at<'a>(
     config: Config,
     sight: Sight,
     response: &mut [u8],
-    u: usize,
-    time: u64,
     key: &'a [u8],
     i: usize,
-    bare: usize,
-    own: bool,
+    numbers: ResponseNumbers,
     head: &'a [u8],
     payload: &'a [u8],
 ) -> Change
-    requires { ⌜ ((t : Table) × HasPlace config sight u (length (now response)) time (now key) bare (length (now payload)) (length (now head)) i t) ⌝ }
-    ensures { λ r. ⌜ ((t : Table) → HasPlace config sight u (length (now (response .entry))) time (now (key .entry)) bare (length (now (payload .entry))) (length (now (head .entry))) i t → (m : List ℕ) → done (world (changed (config .lifetime) time t r) m (now (response .exit))) (r .answer) ≡ callAt config (world t m (now (response .entry))) time (sweep (config .lifetime) time (t .entries)) i (opened (now (key .entry)) (sweep (config .lifetime) time (t .entries))) (Rattle.block_state.specs.Message.response (replying bare own (now (head .entry)) (now (payload .entry))))) × (r .at ≡ i) ⌝ }
+    requires { ⌜ ((u : ℕ) × (t : Table) × HasPlace config sight (numbers .time) (now key) (lengths u (length (now response)) (numbers .bare) (length (now payload)) (length (now head))) i t) ⌝ }
+    ensures { λ r. ⌜ ((u : ℕ) (t : Table) → HasPlace config sight (numbers .time) (now (key .entry)) (lengths u (length (now (response .entry))) (numbers .bare) (length (now (payload .entry))) (length (now (head .entry)))) i t → (m : List ℕ) → done (world (changed (config .lifetime) (numbers .time) t r) m (now (response .exit))) (r .answer) ≡ callAt config (world t m (now (response .entry))) (numbers .time) (sweep (config .lifetime) (numbers .time) (t .entries)) i (opened (now (key .entry)) (sweep (config .lifetime) (numbers .time) (t .entries))) (Rattle.block_state.specs.Message.response (replying numbers (now (head .entry)) (now (payload .entry))))) × (r .at ≡ i) ⌝ }
 {
-    let old = sight.entry;
-    let e = entries::start_from(entries::swept_entry(old, config.lifetime, time), key);
+    let e = opened_entry(config, sight, numbers.time, key);
     let state = e.state;
     let from = i * config.response;
     let end = from + config.response;
@@ -127,22 +124,12 @@ fn response_at<'a>(
         config,
         state,
         &mut response[from..end],
-        bare,
-        own,
+        numbers,
         head,
         payload,
     );
     let stored = e.key;
-    let left = step.state;
-    let entry = touched(stored, time, left);
-    let answer = step.answer;
-    Change {
-        freed: sight.freed,
-        clock: time,
-        at: i,
-        entry,
-        answer,
-    }
+    leave(sight, i, numbers.time, stored, step)
 }
 
 // The table with a change made.
@@ -164,37 +151,28 @@ pub fn request_change<'a>(
     table: Table,
     upload: &mut [u8],
     response: &'a [u8],
-    time: u64,
+    numbers: RequestNumbers,
     key: &'a [u8],
-    bare: usize,
-    given1: bool,
     block1: &'a [u8],
-    given2: bool,
     block2: &'a [u8],
     payload: &'a [u8],
 ) -> Change
-    ensures { λ r. ⌜ (Meant config (world table (now (upload .entry)) (now (response .entry))) (requestCall time (now (key .entry)) bare given1 (now (block1 .entry)) given2 (now (block2 .entry)) (now (payload .entry))) (world (changed (config .lifetime) time table r) (now (upload .exit)) (now (response .entry))) (r .answer)) × (r .at < 16) ⌝ }
+    ensures { λ r. ⌜ (Meant config (world table (now (upload .entry)) (now (response .entry))) (requestCall numbers (now (key .entry)) (now (block1 .entry)) (now (block2 .entry)) (now (payload .entry))) (world (changed (config .lifetime) (numbers .time) table r) (now (upload .exit)) (now (response .entry))) (r .answer)) × (r .at < 16) ⌝ }
 {
-    let u = upload.len();
-    let v = response.len();
-    let sight = places::look(config, table, time, key);
-    match judge::judge(config, sight, u, v, time, bare, payload.len(), 0) {
+    let lengths = Lengths {
+        upload: upload.len(),
+        response: response.len(),
+        bare: numbers.bare,
+        payload: payload.len(),
+        head: 0,
+    };
+    let sight = places::look(config, table, numbers.time, key);
+    match judge::judge(config, sight, numbers.time, lengths) {
         Verdict::Refused(n) => refused(sight, n),
-        Verdict::Place(i) => request_at(
-            config,
-            sight,
-            upload,
-            v,
-            time,
-            key,
-            i,
-            bare,
-            given1,
-            block1,
-            given2,
-            block2,
-            payload,
-        ),
+        Verdict::Place(i) => {
+            let asked = request_step::read_options(config, numbers, block1, block2);
+            request_at(config, sight, upload, key, i, asked, payload)
+        }
     }
 }
 
@@ -204,73 +182,57 @@ pub fn intercept_request<'a>(
     table: Table,
     upload: &mut [u8],
     response: &'a [u8],
-    time: u64,
+    numbers: RequestNumbers,
     key: &'a [u8],
-    bare: usize,
-    given1: bool,
     block1: &'a [u8],
-    given2: bool,
     block2: &'a [u8],
     payload: &'a [u8],
 ) -> Outcome
-    ensures { λ r. ⌜ Meant config (world table (now (upload .entry)) (now (response .entry))) (requestCall time (now (key .entry)) bare given1 (now (block1 .entry)) given2 (now (block2 .entry)) (now (payload .entry))) (world (r .table) (now (upload .exit)) (now (response .entry))) (r .answer) ⌝ }
+    ensures { λ r. ⌜ Meant config (world table (now (upload .entry)) (now (response .entry))) (requestCall numbers (now (key .entry)) (now (block1 .entry)) (now (block2 .entry)) (now (payload .entry))) (world (r .table) (now (upload .exit)) (now (response .entry))) (r .answer) ⌝ }
 {
     let change = request_change(
         config,
         table,
         upload,
         response,
-        time,
+        numbers,
         key,
-        bare,
-        given1,
         block1,
-        given2,
         block2,
         payload,
     );
     let answer = change.answer;
-    let next = changed_table(table, config.lifetime, time, change);
+    let next = changed_table(table, config.lifetime, numbers.time, change);
     Outcome {
         table: next,
         answer,
     }
 }
 
-// What a response changes. `own` says that it has a Block2 option of its own; `head` is its encoded header and options.
+// What a response changes. `head` is its encoded header and options.
 pub fn response_change<'a>(
     config: Config,
     table: Table,
     upload: &'a [u8],
     response: &mut [u8],
-    time: u64,
+    numbers: ResponseNumbers,
     key: &'a [u8],
-    bare: usize,
-    own: bool,
     head: &'a [u8],
     payload: &'a [u8],
 ) -> Change
-    ensures { λ r. ⌜ (Meant config (world table (now (upload .entry)) (now (response .entry))) (responseCall time (now (key .entry)) bare own (now (head .entry)) (now (payload .entry))) (world (changed (config .lifetime) time table r) (now (upload .entry)) (now (response .exit))) (r .answer)) × (r .at < 16) ⌝ }
+    ensures { λ r. ⌜ (Meant config (world table (now (upload .entry)) (now (response .entry))) (responseCall numbers (now (key .entry)) (now (head .entry)) (now (payload .entry))) (world (changed (config .lifetime) (numbers .time) table r) (now (upload .entry)) (now (response .exit))) (r .answer)) × (r .at < 16) ⌝ }
 {
-    let u = upload.len();
-    let v = response.len();
-    let h = head.len();
-    let sight = places::look(config, table, time, key);
-    match judge::judge(config, sight, u, v, time, bare, payload.len(), h) {
+    let lengths = Lengths {
+        upload: upload.len(),
+        response: response.len(),
+        bare: numbers.bare,
+        payload: payload.len(),
+        head: head.len(),
+    };
+    let sight = places::look(config, table, numbers.time, key);
+    match judge::judge(config, sight, numbers.time, lengths) {
         Verdict::Refused(n) => refused(sight, n),
-        Verdict::Place(i) => response_at(
-            config,
-            sight,
-            response,
-            u,
-            time,
-            key,
-            i,
-            bare,
-            own,
-            head,
-            payload,
-        ),
+        Verdict::Place(i) => response_at(config, sight, response, key, i, numbers, head, payload),
     }
 }
 
@@ -280,29 +242,16 @@ pub fn intercept_response<'a>(
     table: Table,
     upload: &'a [u8],
     response: &mut [u8],
-    time: u64,
+    numbers: ResponseNumbers,
     key: &'a [u8],
-    bare: usize,
-    own: bool,
     head: &'a [u8],
     payload: &'a [u8],
 ) -> Outcome
-    ensures { λ r. ⌜ Meant config (world table (now (upload .entry)) (now (response .entry))) (responseCall time (now (key .entry)) bare own (now (head .entry)) (now (payload .entry))) (world (r .table) (now (upload .entry)) (now (response .exit))) (r .answer) ⌝ }
+    ensures { λ r. ⌜ Meant config (world table (now (upload .entry)) (now (response .entry))) (responseCall numbers (now (key .entry)) (now (head .entry)) (now (payload .entry))) (world (r .table) (now (upload .entry)) (now (response .exit))) (r .answer) ⌝ }
 {
-    let change = response_change(
-        config,
-        table,
-        upload,
-        response,
-        time,
-        key,
-        bare,
-        own,
-        head,
-        payload,
-    );
+    let change = response_change(config, table, upload, response, numbers, key, head, payload);
     let answer = change.answer;
-    let next = changed_table(table, config.lifetime, time, change);
+    let next = changed_table(table, config.lifetime, numbers.time, change);
     Outcome {
         table: next,
         answer,

@@ -2,6 +2,7 @@
 use block_value::BlockValue;
 use negotiation::MaybeBlock;
 
+pub mod apart;
 pub mod limits;
 pub mod state;
 
@@ -86,6 +87,31 @@ pub enum Answer {
     // The same, and the response is cached.
     First(BlockValue, Part),
     Refused(u8),
+}
+
+// The nine answers by name.
+pub enum Kind {
+    Continue,
+    TooLarge,
+    Handed,
+    Pass,
+    Served,
+    Plain,
+    Whole,
+    First,
+    Refused,
+}
+
+// What an answer says: its name, a refusal's number (else 0), the two block values to send, the response code (0 where the response that goes out has its own),
+// the body of Handed or the chunk of Served, Whole and First, and the head of Served; a part from 0 to 0 elsewhere.
+pub struct Said {
+    pub kind: Kind,
+    pub number: u8,
+    pub block1: MaybeBlock,
+    pub block2: MaybeBlock,
+    pub code: u8,
+    pub part: Part,
+    pub head: Part,
 }
 
 // A state with what was answered.

@@ -78,7 +78,7 @@ pub fn with_recorded(state: BlockState, block: MaybeBlock) -> BlockState
     next
 }
 
-fn recording_of(block: MaybeBlock) -> Recorded
+pub fn recording_of(block: MaybeBlock) -> Recorded
     ensures { λ r. ⌜ r ≡ recording block ⌝ }
 {
     match block {

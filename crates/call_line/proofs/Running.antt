@@ -2,7 +2,7 @@
 use mathlib.Core.Path.{_≡_}
 use mathlib.Core.List.{List}
 use Prim.Native.Nat.{ℕ}
-use Rattle.block_state.specs.declared.Config.{Config}
+use Rattle.config.specs.declared.Config.{Config}
 use Rattle.block_handler.specs.Call.{World}
 use Rattle.script.specs.Line.{Said}
 use Rattle.script_call.specs.Run.{Runs}

@@ -1,6 +1,6 @@
 // One line that is a call.
-use block_state::Config;
 use block_table::Table;
+use config::Config;
 use script::Line;
 use script_call::Ran;
 ghost use Prim.Native.Nat.{_+_, _*_, _≤_};

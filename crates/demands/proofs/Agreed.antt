@@ -1,36 +1,27 @@
 -- EVERY PAIRING, IN THE CALLS. Assumes nothing.
-use Prim.Native.Nat.{ℕ, _+_}
+use Prim.Native.Nat.{ℕ}
 use mathlib.Core.Bool.{false}
-use mathlib.Core.Path.{_≡_, refl, _∙_}
+use mathlib.Core.Path.{_≡_, _∙_}
 use mathlib.Core.List.{List}
 use native.Mathlib.Omega.{arith}
 use lib.ListN.{length}
-use lib.Dec.{ltb}
-use Rattle.pieces.proofs.Tests.{on-test}
 use Rattle.block_value.specs.declared.BlockValue.{BlockValue}
-use Rattle.negotiation.specs.Negotiation.{negotiated}
-use Rattle.negotiation.specs.Chunk.{chunkOf, chunkBlock}
+use Rattle.negotiation.specs.Chunk.{chunkBlock}
 use Rattle.negotiation.specs.declared.MaybeBlock.the-variants.{Absent, Given}
-use Rattle.negotiation.specs.declared.Negotiated.{Negotiated}
 use Rattle.negotiation.specs.declared.Negotiated.the-variants as agreed
-use Rattle.negotiation.specs.declared.Chunk.{Chunk}
-use Rattle.negotiation.specs.declared.Chunk.the-variants as chunk
-use Rattle.block_state.specs.declared.Config.{Config}
+use Rattle.config.specs.declared.Config.{Config}
 use Rattle.block_state.specs.declared.BlockState.{BlockState}
 use Rattle.block_state.specs.declared.Answer.{Answer}
 use Rattle.block_state.specs.declared.Answer.the-variants.{Refused}
 use Rattle.block_state.specs.Message.{Request, Response, request, response}
 use Rattle.block_state.specs.Answers.{said}
-use Rattle.block_state.specs.State.{recordedBlock}
 use Rattle.block_state.specs.Step.{Left}
-use Rattle.request_step.specs.Step.{onNegotiated, stepRequest}
-use Rattle.response_step.specs.Step.{chunked, onReply, stepResponse}
-use Rattle.places.specs.Places.{opened}
-use Rattle.block_handler.specs.Call.{World, Call, Done, callAt, rowOf, call}
-use Rattle.block_handler.proofs.Frame.{call-cases}
+use Rattle.block_handler.specs.Call.{World, Call, call}
 use Rattle.demands.specs.Touch.{Placed, RefusesTo}
 use Rattle.demands.specs.Agreed.{requestAgrees, responseAgrees, Agrees}
-use Rattle.demands.proofs.Outcomes.{Outcome, refused, past, tooLarge, continued, onwards, serves, none, took, answered}
+use Rattle.demands.proofs.Step.{step-unagreed, response-unagreed}
+use Rattle.demands.proofs.Outcomes.{Outcome, refused, past, tooLarge, continued, onwards, serves, none, took, responds, Cut}
+use Rattle.demands.proofs.Outcomes.{Unstored, plain, disagreed, beyond, crowded, whole, Storing, as-before, stores, answered, answered-response}
 use Rattle.demands.proofs.Pages.{chunk-value}
 use Rattle.demands.proofs.Touch.{refused-touches, response-touches}
 
@@ -53,57 +44,43 @@ told c home away s u r g (serves t v _ _ _ x y from to (took b z n k) l held ask
 told-call : (c : Config) (w : World) (q : Call) (r : Request) (reply : BlockValue) → q .what ≡ request r → said (call c w q .answer) .block1 ≡ Given reply
     → requestAgrees c r ≡ agreed.Block reply
 told-call c w q r reply er =
-    answered (λ (a : Answer). said a .block1 ≡ Given reply → requestAgrees c r ≡ agreed.Block reply) c w q r er (λ n _ e. absent-not reply e)
+    answered (λ (a : Answer). said a .block1 ≡ Given reply → requestAgrees c r ≡ agreed.Block reply) c w q (λ n _ e. absent-not reply e) r er
     (λ home away u g o. told c home away _ u r g o reply)
 
 -- ---- a response's Block2 value
 
-abbrev Sends : ℕ → Negotiated → BlockValue → Type 0
-Sends n g reply = (b : BlockValue) × (g ≡ agreed.Block b) × (reply ≡ chunkBlock b n)
-
 module _ (c : Config) (s : BlockState) (d : List ℕ) (r : Response) (reply : BlockValue) where
-  abbrev Sent : Negotiated → Left → Type 0
-  Sent n g = said (g .answer) .block2 ≡ Given reply → Sends (length (r .payload)) n reply
+  abbrev Sent : Type 0
+  Sent = (b : BlockValue) × (responds c s d r ≡ agreed.Block b) × (reply ≡ chunkBlock b (length (r .payload)))
 
-  sent-chunk : (b : BlockValue) (ch : Chunk) → chunkOf b (length (r .payload)) ≡ ch → Sent (agreed.Block b) (chunked c s d (r .head) (r .payload) ch)
-  unfolding chunked
-  sent-chunk b (chunk.Refused n) is = λ e. absent-not reply e
-  sent-chunk b (chunk.Bytes y from to) is =
-      on-test (Sent (agreed.Block b)) (y .more)
-      (λ _. on-test (Sent (agreed.Block b)) (ltb (c .response) (length (r .head) + length (r .payload))) (λ _ e. absent-not reply e) (λ _. it)) (λ _. it)
-    where
-      it : Given y ≡ Given reply → Sends (length (r .payload)) (agreed.Block b) reply
-      it e = let same : reply ≡ y = cc in (b, refl, same ∙ chunk-value b (length (r .payload)) y from to is)
+  cut-sent : (y : BlockValue) (from to : ℕ) → Cut c s d r y from to → Given y ≡ Given reply → Sent
+  cut-sent y from to k e = let same : reply ≡ y = cc in (k .0, k .1, same ∙ chunk-value (k .0) (length (r .payload)) y from to (k .2))
 
-  sent-reply : (n : Negotiated) → Sent n (onReply c s d (r .head) (r .payload) n)
-  unfolding onReply
-  sent-reply (agreed.Refused n) e = absent-not reply e
-  sent-reply agreed.NoBlock e = absent-not reply e
-  sent-reply (agreed.Block b) e = sent-chunk b (chunkOf b (length (r .payload))) refl e
+  sent-whole : (a : Answer) → Unstored c s d r a → said a .block2 ≡ Given reply → Sent
+  sent-whole a plain e = absent-not reply e
+  sent-whole a (disagreed n h) e = absent-not reply e
+  sent-whole a (beyond b n is) e = absent-not reply e
+  sent-whole a crowded e = absent-not reply e
+  sent-whole a (whole y from to k) e = cut-sent y from to k e
 
-  sent-step : Sent (negotiated (recordedBlock (s .recorded)) (r .bare) (length (r .payload)) (c .limit)) (stepResponse c s d r)
-  unfolding stepResponse
-  sent-step =
-      let n = negotiated (recordedBlock (s .recorded)) (r .bare) (length (r .payload)) (c .limit) in
-      on-test (Sent n) (r .own) (λ _ e. absent-not reply e) (λ _. sent-reply n)
+  sent-so : (g : Left) → Storing c s d r g → said (g .answer) .block2 ≡ Given reply → Sent
+  sent-so g (as-before a k) e = sent-whole a k e
+  sent-so g (stores t y from to k same cached room) e = cut-sent y from to k e
 
 sent-call : (c : Config) (w : World) (q : Call) (r : Response) (reply : BlockValue) → q .what ≡ response r → said (call c w q .answer) .block2 ≡ Given reply
-    → Sends (length (r .payload)) (responseAgrees c w q r) reply
-unfolding callAt
+    → (b : BlockValue) × (responseAgrees c w q r ≡ agreed.Block b) × (reply ≡ chunkBlock b (length (r .payload)))
 sent-call c w q r reply er =
-    call-cases (λ (d : Done). said (d .answer) .block2 ≡ Given reply → Sends (length (r .payload)) (responseAgrees c w q r) reply) c w q (λ n e. absent-not reply e)
-    (λ named ok later i16. rw er (sent-step c (opened (q .key) (rowOf c w q) .state) _ r reply))
+    answered-response (λ (a : Answer). said a .block2 ≡ Given reply → (b : BlockValue) × (responseAgrees c w q r ≡ agreed.Block b) × (reply ≡ chunkBlock b (length (r .payload))))
+    c w q (λ n _ e. absent-not reply e) r er (λ d g k. sent-so c _ d r reply g k)
 
 -- ---- refusals 4 and 5
 
 module _ (c : Config) (w : World) (q : Call) (n : ℕ) (p : Placed c w q) where
   request-refused : (r : Request) → q .what ≡ request r → requestAgrees c r ≡ agreed.Refused n → RefusesTo n call c w q
-  unfolding stepRequest onNegotiated
-  request-refused r e g = refused-touches c w q p r e n (rw g)
+  request-refused r e g = refused-touches c w q p r e n (step-unagreed c _ _ _ _ r n g)
 
   response-refused : (r : Response) → q .what ≡ response r → r .own ≡ false → responseAgrees c w q r ≡ agreed.Refused n → RefusesTo n call c w q
-  unfolding stepResponse onReply
-  response-refused r e own g = response-touches c w q p r e n (rw (own, g))
+  response-refused r e own g = response-touches c w q p r e n (response-unagreed c _ _ r own n g)
 
 pub agrees : Agrees call
 agrees =

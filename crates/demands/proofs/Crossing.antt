@@ -4,12 +4,12 @@ use mathlib.Core.Bool.{true, false, cond, false≢true}
 use mathlib.Core.Path.{_≡_, refl, sym, _∙_, ap, subst}
 use mathlib.Core.List.{List, [], _∷_, _++_, map, append-nil, cons≢nil}
 use native.Mathlib.Omega.{arith}
-use lib.ListN.{length, take, getD-replicate, take-append-drop}
+use lib.ListN.{length, take, take-append-drop}
 use lib.Seq.{take-at, drop-at}
 use lib.Dec.{leb}
 use borrow.Author.Tests.{leb-true, leb-false, lt-ltb}
 use Rattle.pieces.proofs.Tests.{ands, and-left, and-right, and-both, by-cases, on-test, clash-of, refute}
-use Rattle.block_state.specs.declared.Config.{Config}
+use Rattle.config.specs.declared.Config.{Config}
 use Rattle.block_state.specs.declared.Assembled.{Assembled}
 use Rattle.block_state.specs.declared.BlockState.{BlockState}
 use Rattle.block_state.specs.declared.Answer.the-variants.{Refused}
@@ -20,7 +20,7 @@ use Rattle.pieces.specs.Memory.{pieceOf}
 use Rattle.keys.specs.Keys.{same, keyOk}
 use Rattle.keys.proofs.Keys.{same-eq}
 use Rattle.entries.specs.declared.Entry.{Entry}
-use Rattle.entries.specs.Entries.{free, holds, live, swept}
+use Rattle.entries.specs.Entries.{holds, live, swept}
 use Rattle.entries.proofs.Entries.{holds-new}
 use Rattle.block_table.proofs.Row.{Unique, at-sweep, at-set}
 use Rattle.block_table.proofs.TableFits.{row-length}
@@ -33,10 +33,10 @@ use Rattle.demands.specs.Clocks.{asks, requestsOn, runOn, OwnRising}
 use Rattle.demands.specs.Twice.{lastOf}
 use Rattle.demands.specs.Crossing.{inForm, counts, counted, seenCounted, UncountedRefused, among, AllAmong, FromFresh, Transfer, AllProper, callsOf, HandsAll}
 use Rattle.demands.specs.Crossing.{MorningsCross, SixteenCross, UncountedAreRefused}
-use Rattle.demands.proofs.Outcomes.{storing, storing-assembled, early-or-placed}
-use Rattle.demands.proofs.Runs.{asks-own, all-front, all-behind, seen-cut, none-seen, Cut, cut, rising-cut, rising-own, fresh-fits, after-fits, after-clock}
+use Rattle.demands.proofs.Outcomes.{storing-assembled, early-or-placed}
+use Rattle.demands.proofs.Runs.{asks-own, all-front, all-behind, seen-cut, none-seen, Cut, cut, rising-cut, rising-own, fresh-entry, fresh-fits, after-fits, after-clock}
 use Rattle.demands.proofs.Held.{Held}
-use Rattle.demands.proofs.Push.{Pushed, none-first, ready-first, pass, push-from, each-block}
+use Rattle.demands.proofs.Push.{Pushed, none-first, ready-first, pass, push-from, firstOf, blocks-follow}
 use Rattle.demands.proofs.Sixteen.{call-entries, Over, over-call, over-after, has-place}
 
 -- ---- between two pushes: no entry of the key's has anything assembled
@@ -60,8 +60,8 @@ idle-response c w k q r f mine is idle =
     let s : BlockState = opened (q .key) (rowOf c w q) .state in
     let d : List ℕ = pieceOf (c .response) i (w .response) in
     let long : length (rowOf c w q) ≡ 16 = row-length c (w .table) (q .time) (f .table) (f .sixteen) in
-    let none : s .assembled .len ≡ 0 = rw mine at (none-first c w k 0 (q .time) f later (λ j b h l. idle j b h) (rw mine i16)) in
-    let step : stepResponse c s d r .state .assembled .len ≡ 0 = ap (λ (a : Assembled). a .len) (storing-assembled c s d r _ (storing c s d r)) ∙ none in
+    let none : s .assembled .len ≡ 0 = rw mine at (none-first c w k (q .time) f later (λ j b h l. idle j b h) (rw mine i16)) in
+    let step : stepResponse c s d r .state .assembled .len ≡ 0 = ap (λ (a : Assembled). a .len) (storing-assembled c s d r) ∙ none in
     rw is
     (λ j b.
     at-set (rowOf c w q) i _ (omega (arith, long)) (λ j e. holds k e ≡ true → e .state .assembled .len ≡ 0) (λ h. step)
@@ -122,9 +122,10 @@ module _ (c : Config) (k : List ℕ) (keys : List (List ℕ)) (few : length keys
       let idle : Idle k v = idle-others c k (z .before) w (g .fits) ab₀ (z .none) (g .idle) in
       let later : v .table .clock ≤ s .time = after-clock c (s .time) (z .before) w (r .0) (r .1) in
       let placed = has-place c v keys fits over k (s .time) few (all-behind _ (z .before) parts aa .0) in
-      let ready = ready-first c v k (p .exponent) (s .time) fits later placed (λ plain i b h l. idle i b h) in
+      let ready = ready-first c v k (s .time) fits later (firstOf (p .exponent) (p .rest)) refl placed (λ plain i b h l. idle i b h) in
       let named : keyOk k ≡ true = and-left (keyOk k) (whatOk (request (s .message))) (form .0) in
-      let n = push-from c k (p .exponent) named (p .rest) v 0 [] s (z .behind) (callsOf k pushes) ready (each-block c (p .exponent) s (p .rest) b) (b .prompt) (b .fits)
+      let follow = blocks-follow c (p .exponent) s (p .rest) b in
+      let n = push-from c k named (p .rest) v (firstOf (p .exponent) (p .rest)) [] s (z .behind) (callsOf k pushes) ready follow (b .prompt) (b .fits)
       (all-behind _ (z .before) parts ab) (r .2) (z .left) in
       subst (Pushed c w k (lastOf s (p .rest) .time) (length (s ∷ p .rest)) (joined s (p .rest)) (callsOf k pushes)) (sym (z .is))
       (pass c w k (lastOf s (p .rest) .time) (length (s ∷ p .rest)) (joined s (p .rest)) (callsOf k pushes) parts (z .before) (z .none) n)
@@ -232,14 +233,11 @@ module _ (c : Config) (keys : List (List ℕ)) (few : length keys ≤ 16) where
 -- ---- from a fresh table
 
 module _ (c : Config) (w : World) (keys : List (List ℕ)) (calls : List Call) (g : FromFresh c w keys calls) where
-  at-fresh : (i : ℕ) → i < 16 → entryAt w i ≡ free
-  at-fresh i b = rw (g .start .table) (getD-replicate 16 i free free b)
-
   fresh-over : Over keys w
-  fresh-over i b u = absurd (false≢true (rw (at-fresh i b) at u))
+  fresh-over i b u = absurd (false≢true (rw (fresh-entry w (g .start .table) i b) at u))
 
   fresh-idle : (k : List ℕ) → Idle k w
-  fresh-idle k i b h = rw (at-fresh i b)
+  fresh-idle k i b h = rw (fresh-entry w (g .start .table) i b)
 
   fresh-clock : w .table .clock ≡ 0
   fresh-clock = rw (g .start .table)

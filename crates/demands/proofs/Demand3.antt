@@ -1,10 +1,10 @@
 -- DEMAND 3 holds of the definition of a call, in both modes and for every size: first with other lanes' clocks going as they like and the key's own responses anywhere
 -- (specs/Clocks.antt), and so as the mission has it. Assumes nothing.
 use Prim.Native.Nat.{ℕ}
-use mathlib.Core.Path.{_≡_, sym, _∙_, subst}
+use mathlib.Core.Path.{_≡_, refl, sym, _∙_, subst}
 use mathlib.Core.List.{List, [], _∷_, map, append-nil}
 use lib.ListN.{length}
-use Rattle.block_state.specs.declared.Config.{Config}
+use Rattle.config.specs.declared.Config.{Config}
 use Rattle.keys.specs.Keys.{same}
 use Rattle.keys.proofs.Keys.{same-refl}
 use Rattle.block_handler.specs.Call.{World, Call, call}
@@ -13,7 +13,7 @@ use Rattle.demands.specs.Demand3.{after, Sent, callOn, joined, All, Hand
 use Rattle.demands.specs.Clocks.{asks, runOn, GrantedOwn, Demand3Own, Stronger}
 use Rattle.demands.specs.Twice.{lastOf}
 use Rattle.demands.proofs.Runs.{asks-own, only-asks, own-requests, own-seen, seen-cut, none-seen, rising-cut, rising-own}
-use Rattle.demands.proofs.Push.{Pushed, place-first, ready-first, push-from, each-block}
+use Rattle.demands.proofs.Push.{Pushed, place-first, ready-first, push-from, firstOf, blocks-follow}
 
 -- a push as demand 3 has it, once its last block was taken
 pub pushed : (c : Config) (w : World) (k : List ℕ) (x : ℕ) (first : Sent) (rest : List Sent) (later : List Call) → GrantedOwn c w k x first rest later
@@ -22,9 +22,10 @@ pushed c w k x first rest later g =
     let p = g .push in
     let f = world-fits c w (callOn k first) (p .limits) (p .sixteen) in
     let r = rising-cut k (w .table .clock) [] (callOn k first) later (asks-own k first) (g .clock) in
-    push-from c k x (key-within c w (callOn k first) (p .limits)) rest w 0 [] first later []
-    (ready-first c w k x (first .time) f (r .0) (place-first c w k x (first .time) f (r .0) (g .entry)) (g .nothing))
-    (each-block c x first rest (p .blocks)) (p .blocks .prompt) (p .blocks .fits) (p .bytes) (r .2) (g .own ∙ sym (append-nil (map (callOn k) rest)))
+    let placed = place-first c w k (first .time) f (r .0) (g .entry) in
+    let ready = ready-first c w k (first .time) f (r .0) (firstOf x rest) refl placed (g .nothing) in
+    push-from c k (key-within c w (callOn k first) (p .limits)) rest w (firstOf x rest) [] first later [] ready
+    (blocks-follow c x first rest (p .blocks)) (p .blocks .prompt) (p .blocks .fits) (p .bytes) (r .2) (g .own ∙ sym (append-nil (map (callOn k) rest)))
 
 pub demand3-own : Demand3Own call
 unfolding Demand3Own

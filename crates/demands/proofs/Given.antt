@@ -6,18 +6,20 @@ use mathlib.Core.Logic.{inl, inr}
 use mathlib.Core.List.{List, [], _∷_, _++_, map}
 use mathlib.Core.Option.{none, some}
 use native.Mathlib.Omega.{arith}
-use lib.ListN.{length, replicate, getD-replicate}
+use lib.ListN.{length, replicate}
 use lib.Dec.{ltb}
 use borrow.Author.Tests.{ltb-true}
-use Rattle.pieces.proofs.Tests.{and-left, and-right, clash-of}
+use Rattle.pieces.proofs.Tests.{and-left, and-right}
 use Rattle.block_value.specs.Value.{sizeOf}
+use Rattle.negotiation.specs.Negotiation.{negotiated}
+use Rattle.negotiation.specs.declared.MaybeBlock.the-variants.{Given}
+use Rattle.negotiation.specs.declared.Negotiated.the-variants.{Block}
 use Rattle.block_state.specs.Message.{request, WhatBytes}
 use Rattle.block_state.specs.Answers.{said, served}
 use Rattle.keys.specs.Keys as keys
-use Rattle.entries.specs.Entries.{free, live}
 use Rattle.answers.specs.Parts.{servedChunk}
 use Rattle.block_handler.specs.Call.{Call, call, withinLimits}
-use Rattle.demands.specs.Demand3.{Sent, callOn, block, All, AllBytes, HasFree, NothingInPlain, Blocks, Granted}
+use Rattle.demands.specs.Demand3.{Sent, callOn, block, All, AllBytes, Blocks, Granted}
 use Rattle.demands.specs.Clocks.{requestsOn, GrantedOwn}
 use Rattle.demands.specs.Twice.{SentAgain}
 use Rattle.demands.specs.Crossing.{among, AllAmong, counted, callsOf, FromFresh, Sends}
@@ -25,10 +27,10 @@ use Rattle.demands.specs.Strict.{BadlyFormed, PassesFive}
 use Rattle.demands.specs.Pages.{lastStored}
 use Rattle.demands.specs.Shams.{config, fresh, key, sent, firstBlock, lastBlock, later}
 use Rattle.demands.specs.Given.{large, lentWorld, full, sixteenMore, farAgain, keyOfByte, firstOf, nextOf, singleOf, pushesOf, onEach}
-use Rattle.demands.specs.Given.{bytes, backwards, refused, answering, crossing, EachSends, goesBack, bothFaults, page, storing, asked, AllCanBeGiven}
+use Rattle.demands.specs.Given.{bytes, backwards, refused, answering, crossing, EachSends, goesBack, page, storing, asked, AllCanBeGiven}
 use Rattle.demands.proofs.Computes.{values, limits, calls}
 use Rattle.demands.proofs.Runs.{only-asks, own-requests, rising-own}
-use Rattle.demands.proofs.Shams.{can-be-given}
+use Rattle.demands.proofs.Shams.{fresh-free, fresh-nothing, one-block, two-blocks, can-be-given}
 
 -- ---- what holds of every call, by one test
 
@@ -60,46 +62,16 @@ unfolding limits
 counted-is = refl
 
 sends : (strict : Bool) (b : ℕ) → requestsOn (keyOfByte b) counting ≡ callsOf (keyOfByte b) (pushesOf b) → Sends (config strict) (keyOfByte b) crossing (pushesOf b)
-unfolding values
 sends strict b own =
     record {
       own = ap (requestsOn (keyOfByte b)) counted-is ∙ own;
       proper = (
-        record {
-          count = omega arith;
-          numbered = (refl, refl);
-          size = omega arith;
-          full = (refl, omega arith);
-          alone = (refl, refl);
-          room = (omega arith, omega arith);
-          fits = omega arith;
-          prompt = (omega arith, tt);
-        },
-        (
-          record {
-            count = omega arith;
-            numbered = refl;
-            size = omega arith;
-            full = omega arith;
-            alone = refl;
-            room = omega arith;
-            fits = omega arith;
-            prompt = tt;
-          },
-          tt,
-        ),
+        two-blocks (config strict) (omega arith) 5 9 (replicate 16 b) (b ∷ []) refl (omega arith) (omega arith) (omega arith),
+        (one-block (config strict) (omega arith) 10 (b ∷ b ∷ []) (omega arith) (omega arith), tt),
       );
     }
 
 -- ---- seventeen blocks
-
-has-free : (u d : List ℕ) → HasFree large (lentWorld u d) 1
-unfolding live
-has-free u d = (0, omega arith, refl)
-
-none-live : (u d : List ℕ) → NothingInPlain large (lentWorld u d) 1 key
-unfolding live
-none-live u d plain i b h y = absurd (clash-of (live 120000 1 free) (sym (ap (λ e. live 120000 1 e) (getD-replicate 16 i free free b)) ∙ y) refl)
 
 within : (u d : List ℕ) → length u ≡ 262160 → length d ≡ 256 → withinLimits large (lentWorld u d) (callOn key (full 0x0E)) ≡ true
 unfolding limits
@@ -142,8 +114,8 @@ unfolding keys.same
 far-granted u d hu hd =
     let t : 1 ≤ 1 = omega arith in
     record {
-      entry = inr (has-free u d);
-      nothing = none-live u d;
+      entry = inr (fresh-free large (lentWorld u d) 1 refl);
+      nothing = fresh-nothing large (lentWorld u d) 1 key refl;
       push = record { limits = within u d hu hd; sixteen = refl; bytes = far-bytes; blocks = seventeen };
       own = refl;
       clock = rising-own key 0 (map (callOn key) (full 0x0E ∷ sixteenMore))
@@ -164,27 +136,21 @@ own strict x first rest calls g =
       clock = rising-own key 0 (callOn key first ∷ calls) (g .clock);
     }
 
-passes-five : PassesFive (config true) fresh (callOn key bothFaults) (bothFaults .message) (block 1 true 0)
-unfolding calls
-passes-five =
-    record {
-      asks = refl;
-      given = refl;
-      placed = record { limits = refl; sixteen = refl; clock = omega arith; place = omega arith };
-      reply = block 1 false 0;
-      agreed = refl;
-    }
+-- a marked block 1 of n bytes passes checks 1 to 5, where its limits and its negotiation do
+abbrev marked : ℕ → Sent
+marked n = sent 5 (0x18 ∷ []) (replicate n 2)
 
--- the same, full: misplaced only
-passes-full : PassesFive (config true) fresh (callOn key (sent 5 (0x18 ∷ []) (replicate 16 2))) (sent 5 (0x18 ∷ []) (replicate 16 2) .message) (block 1 true 0)
+passes-five : (n : ℕ) → withinLimits (config true) fresh (callOn key (marked n)) ≡ true
+    → negotiated (Given (block 1 true 0)) 20 (length (marked n .message .payload)) 64 ≡ Block (block 1 false 0)
+    → PassesFive (config true) fresh (callOn key (marked n)) (marked n .message) (block 1 true 0)
 unfolding calls
-passes-full =
+passes-five n ok agreed =
     record {
       asks = refl;
       given = refl;
-      placed = record { limits = refl; sixteen = refl; clock = omega arith; place = omega arith };
+      placed = record { limits = ok; sixteen = refl; clock = omega arith; place = omega arith };
       reply = block 1 false 0;
-      agreed = refl;
+      agreed = agreed;
     }
 
 well-formed : BadlyFormed (block 1 true 0) 16 → ⊥
@@ -280,10 +246,10 @@ all-can-be-given =
       cross = crosses;
       each = each-sends;
       back = goes-back;
-      five = passes-five;
+      five = passes-five 15 refl refl;
       bad = inr (inr (refl, λ e. let z : _≡_ {A = ℕ} 15 16 = e in omega arith));
       misplaced = (λ e. let z : _≡_ {A = ℕ} 1 0 = e in omega arith, λ e. let z : _≡_ {A = ℕ} 16 0 = e .0 in omega arith);
-      astray = passes-full;
+      astray = passes-five 16 refl refl;
       well = well-formed;
       serves = serves-it;
       stored = stored-it;

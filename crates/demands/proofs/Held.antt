@@ -7,7 +7,7 @@ use native.Mathlib.Omega.{arith}
 use borrow.Author.Tests.{leb-true}
 use Rattle.pieces.specs.Memory.{pieceOf}
 use Rattle.pieces.proofs.Tests.{ands, by-cases}
-use Rattle.block_state.specs.declared.Config.{Config}
+use Rattle.config.specs.declared.Config.{Config}
 use Rattle.block_state.specs.Message.{Response, What, request, response, WhatBytes}
 use Rattle.keys.specs.Keys.{same, keyOf}
 use Rattle.keys.proofs.Keys.{same-refl, same-eq}
@@ -24,7 +24,7 @@ use Rattle.block_handler.specs.Call.{World, Call, Done, callAt, rowOf, call}
 use Rattle.block_handler.proofs.Frame.{WorldFits, call-fits, other-keeps}
 use Rattle.demands.specs.Demand3.{after, All, AllBytes, entryAt}
 use Rattle.demands.specs.Clocks.{asks, requestsOn}
-use Rattle.demands.proofs.Outcomes.{storing, storing-assembled, early-or-placed}
+use Rattle.demands.proofs.Outcomes.{storing-assembled, early-or-placed}
 
 lifetime-least : (c : Config) → configOk c ≡ true → 0 < c .lifetime
 unfolding configOk
@@ -96,7 +96,7 @@ module _ (c : Config) (w : World) (k : List ℕ) (i last : ℕ) (g : Held c w k 
         let long = row-length c (w .table) (q .time) (g .fits .table) (g .fits .sixteen) in
         let key : keyOf (entryAt w i .key) ≡ q .key = rw from at (opened-key (q .key) (rowOf c w q) long) in
         let own : same k (q .key) ≡ true = rw (← mine) (same-refl k) in
-        let step = storing-assembled c (entryAt w i .state) (pieceOf (c .response) i (w .response)) r _ (storing c (entryAt w i .state) (pieceOf (c .response) i (w .response)) r) in
+        let step = storing-assembled c (entryAt w i .state) (pieceOf (c .response) i (w .response)) r in
         rw (is, here, at-set-same (rowOf c w q) i _ (omega (arith, long, g .slot)), from) (step, refl, holds-new k (q .key) (entryAt w i .key) (q .time) _ key ∙ own, touched-before later))
 
   -- so does any call that is no request on the key

@@ -6,34 +6,34 @@ use mathlib.Core.Logic.{inl}
 use mathlib.Core.List.{List, _++_, append-nil}
 use native.Mathlib.Nat.{zero-add, zero-mul, one-mul}
 use native.Mathlib.Omega.{arith}
-use lib.ListN.{length, take, drop}
+use lib.ListN.{length, take, drop, replicate}
 use lib.Seq.{drop-drop, take-at, drop-at, length-take-le}
 use Rattle.pieces.specs.Memory.{patch, part}
-use Rattle.splicing.specs.Splice.{splicedLength, pieceAfter}
+use Rattle.splicing.specs.Splice.{splicedLength, spliceOf, pieceAfter}
 use Rattle.splicing.specs.Splice as pieces
 use Rattle.splicing.specs.declared.Splice.the-variants.{Body}
 use Rattle.pieces.proofs.Memory.{drop-part}
 use Rattle.splicing.proofs.Splicing as splicing
-use Rattle.block_value.specs.Value.{sizeOf}
-use Rattle.negotiation.specs.declared.MaybeBlock.the-variants.{Absent, Given}
-use Rattle.negotiation.specs.declared.Negotiated.the-variants.{Block}
-use Rattle.block_state.specs.declared.Config.{Config}
+use Rattle.block_value.specs.Value.{sizeOf, blockSize, blockStart}
+use Rattle.block_value.specs.declared.BlockValue.{BlockValue}
+use Rattle.negotiation.specs.declared.MaybeBlock.the-variants.{Absent}
+use Rattle.config.specs.declared.Config.{Config}
 use Rattle.block_state.specs.declared.BlockState.{BlockState}
 use Rattle.block_state.specs.declared.Answer.the-variants.{Continue, Handed}
 use Rattle.block_state.specs.Message.{Request}
 use Rattle.block_state.specs.State.{assembly, withAssembled, withRecorded}
 use Rattle.block_state.specs.Step.{Left, left, bytesFrom}
-use Rattle.request_block1.specs.Block1.{lengthMet, taken}
+use Rattle.request_step.specs.Block1.{lengthMet}
 use Rattle.request_step.specs.Step.{stepRequest}
-use Rattle.request_block2.proofs.Steps.{onward-absent}
-use Rattle.request_block1.proofs.Steps.{taken-more, taken-last, spliced-body, given-next}
-use Rattle.request_step.proofs.Steps.{request-given}
 use Rattle.pieces.proofs.Tests.{clash-of}
 use Rattle.block_handler.specs.Call.{call}
-use Rattle.demands.specs.Demand3.{block, Demand3}
-use Rattle.demands.specs.Incident.{Carries, once, twice, TailKept, Story, StartsAfresh}
-use Rattle.demands.proofs.OwnStep.{room-agreed, held-after}
+use Rattle.demands.specs.Demand3.{block, Fills, Demand3}
+use Rattle.demands.specs.Incident.{Carries, once, twice, TailKept, shop, Story, StartsAfresh}
+use Rattle.demands.proofs.Checks.{meets-all}
+use Rattle.demands.proofs.Step.{step-more, step-last}
+use Rattle.demands.proofs.OwnStep.{unmarked, OneBlock, form-ok, agreed, held-after}
 use Rattle.demands.proofs.Demand3.{demand3}
+use Rattle.demands.proofs.Shams.{two-blocks}
 use Rattle.demands.proofs.Computes.{calls}
 
 -- ---- strict mode
@@ -48,19 +48,41 @@ starts-afresh c w k x first rest later strict o p own rise =
 
 -- a block that lies within what is assembled, and is as long as the range it replaces, leaves the length
 module _ (c : Config) (home at : ℕ) (s : BlockState) (u : List ℕ) (x j a l : ℕ) (m : Bool) (r : Request) (plain : c .strict ≡ false) (hx : x ≤ 6)
-    (hj : j ≤ 65535) (start : j * sizeOf x ≡ a) (hl : s .assembled .len ≡ l) (inside : a + sizeOf x ≤ l) (fits : l ≤ c .upload) (h : Carries c x j m r) where
-  within : stepRequest c home at s u r
-      ≡ taken home at s (patch u 0 (pieces.spliced (take l u) a (sizeOf x) (r .payload))) Absent (block j m x) (block j false x) l
-  unfolding pieceAfter lengthMet
-  within =
+    (hj : j ≤ 4095) (start : j * sizeOf x ≡ a) (hl : s .assembled .len ≡ l) (inside : a + sizeOf x ≤ l) (fits : l ≤ c .upload) (h : Carries c x j m r) where
+  abbrev b : BlockValue
+  b = block j m x
+
+  abbrev replaced : List ℕ
+  replaced = patch u 0 (pieces.spliced (take l u) a (sizeOf x) (r .payload))
+
+  carried : OneBlock c b r
+  carried = record { size = hx; count = hj; numbered = h .numbered; full = fills m; alone = h .alone; room = h .room }
+    where
+      fills : (m : Bool) → Fills m (length (r .payload)) (sizeOf x)
+      fills true = h .full
+      fills false = omega (arith, h .full)
+
+  met : lengthMet (c .strict) (s .assembled) b ≡ l
+  met = meets-all (c .strict) (s .assembled) b (λ strict. absurd (clash-of (c .strict) strict plain)) ∙ hl
+
+  body : spliceOf (c .upload) l (blockStart b) (blockSize b) (length (r .payload)) ≡ Body l
+  body =
       let p : ℕ = length (r .payload) in
-      let reply = room-agreed j m x (r .bare) p (c .limit) hj (omega arith) (omega (arith, h .full)) (h .room) in
       let n : splicedLength l a (sizeOf x) p ≡ l = omega (arith, h .full) in
-      request-given c home at s u r (Given (block j m x)) Absent (Block (block j false x)) (sym (h .numbered)) (sym (h .alone)) (sym reply) (block j m x) (block j false x) refl refl
-      ∙ given-next c home at s u Absent (r .payload) (block j m x) (block j false x) (rw plain) (rw plain) l (rw plain (sym hl))
-      ∙ spliced-body home at s u Absent (r .payload) (block j m x) (block j false x) l _ l
-      (rw start (splicing.taken (c .upload) l a (sizeOf x) p (omega arith) (omega arith) ∙ ap Body n))
-      ∙ rw start
+      rw start (splicing.taken (c .upload) l a (sizeOf x) p (omega arith) (omega arith) ∙ ap Body n)
+
+  piece : pieceAfter u l (blockStart b) (blockSize b) (r .payload) ≡ replaced
+  unfolding pieceAfter
+  piece = rw start
+
+  within-more : m ≡ true → stepRequest c home at s u r ≡ left (withAssembled s (assembly l x)) replaced (Continue (unmarked b))
+  within-more =
+      step-more c home at s u r b (unmarked b) (h .numbered) (agreed c b r carried) (form-ok c b r carried) (rw plain) l met l replaced body piece
+
+  within-last : m ≡ false
+      → stepRequest c home at s u r ≡ left (withRecorded (withAssembled s (assembly 0 0)) Absent) replaced (Handed (unmarked b) (bytesFrom home l))
+  within-last last =
+      step-last c home at s u r b (unmarked b) (h .numbered) (agreed c b r carried) (form-ok c b r carried) (rw plain) l met l replaced body piece last (h .alone)
 
 -- the two splices: the new payloads, and behind them what stood there
 module _ (u : List ℕ) (l size : ℕ) (p q : List ℕ) (hp : length p ≡ size) (hq : length q ≡ size) (h : size + size ≤ l) (hu : l ≤ length u) where
@@ -105,15 +127,10 @@ tail-kept c home at s u x l first last plain hx hl h fits hu f g =
     let u₁ : List ℕ = patch u 0 b₁ in
     let held : take l u₁ ≡ b₁ = rw n₁ at (held-after u b₁) in
     let e₁ : once c home at s u first ≡ left s₁ u₁ (Continue (block 0 false x)) =
-    within c home at s u x 0 0 l true first plain hx (omega arith) (zero-mul size) hl (omega arith) fits f
-    ∙ taken-more home at s u₁ Absent (block 0 true x) (block 0 false x) l refl in
-    let e₂ : stepRequest c home at s₁ u₁ last ≡ left (withRecorded (withAssembled s₁ (assembly 0 0)) Absent) (patch u₁ 0 b₂) (Handed (block 1 false x) (bytesFrom home l)) =
-    within c home at s₁ u₁ x 1 size l false last plain hx (omega arith) (one-mul size) refl (omega arith) fits g
-    ∙ rw held
-    (taken-last home at s₁ (patch u₁ 0 b₂) Absent (block 1 false x) (block 1 false x) l refl
-    ∙ onward-absent at (withAssembled s₁ (assembly 0 0)) (patch u₁ 0 b₂) Absent (Given (block 1 false x)) (Handed (block 1 false x) (bytesFrom home l)) refl) in
+    within-more c home at s u x 0 0 l true first plain hx (omega arith) (zero-mul size) hl (omega arith) fits f refl in
+    let last-one = within-last c home at s₁ u₁ x 1 size l false last plain hx (omega arith) (one-mul size) refl (omega arith) fits g refl in
     let e : twice c home at s u first last ≡ left (withRecorded (withAssembled s₁ (assembly 0 0)) Absent) (patch u₁ 0 b₂) (Handed (block 1 false x) (bytesFrom home l)) =
-    ap (λ (v : Left). stepRequest c home at (v .state) (v .piece) last) e₁ ∙ e₂ in (
+    ap (λ (v : Left). stepRequest c home at (v .state) (v .piece) last) e₁ ∙ (rw held at last-one) in (
       ap (λ (v : Left). v .answer) e₁,
       ap (λ (v : Left). v .answer) e,
       ap (λ (v : Left). take l (v .piece)) e ∙ (rw n₂ at (held-after u₁ b₂)) ∙ two u l size p q (f .full) (g .full) h hu′,
@@ -131,16 +148,7 @@ story =
         limits = refl;
         sixteen = refl;
         bytes = (((omega arith, tt), tt), (((omega arith, tt), tt), tt));
-        blocks = record {
-          count = omega arith;
-          numbered = (refl, refl);
-          size = omega arith;
-          full = (refl, omega arith);
-          alone = (refl, refl);
-          room = (omega arith, omega arith);
-          fits = omega arith;
-          prompt = (omega arith, tt);
-        };
+        blocks = two-blocks (shop true) (omega arith) 6 7 (replicate 16 2) (replicate 16 3) refl (omega arith) (omega arith) (omega arith);
       };
       own = refl;
       clock = (omega arith, (omega arith, tt));

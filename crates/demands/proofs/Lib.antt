@@ -1,6 +1,8 @@
 pub mod Computes
 pub mod Cases
 pub mod Determined
+pub mod Checks
+pub mod Step
 pub mod OwnStep
 pub mod Outcomes
 pub mod Runs

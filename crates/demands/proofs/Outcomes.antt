@@ -22,17 +22,17 @@ use Rattle.negotiation.specs.declared.Negotiated.{Negotiated}
 use Rattle.negotiation.specs.declared.Negotiated.the-variants as agreed
 use Rattle.negotiation.specs.declared.Chunk.{Chunk}
 use Rattle.negotiation.specs.declared.Chunk.the-variants as chunk
-use Rattle.block_state.specs.declared.Config.{Config}
+use Rattle.config.specs.declared.Config.{Config}
 use Rattle.block_state.specs.declared.Assembled.{Assembled}
 use Rattle.block_state.specs.declared.Cached.{Cached}
 use Rattle.block_state.specs.declared.BlockState.{BlockState}
 use Rattle.block_state.specs.declared.Answer.{Answer}
-use Rattle.block_state.specs.declared.Answer.the-variants.{Continue, TooLarge, Handed, Pass, Served, Refused}
-use Rattle.block_state.specs.Message.{Request, Response, request}
+use Rattle.block_state.specs.declared.Answer.the-variants.{Continue, TooLarge, Handed, Pass, Served, Plain, Whole, First, Refused}
+use Rattle.block_state.specs.Message.{Request, Response, request, response}
 use Rattle.block_state.specs.State.{assembly, keptWhile, caching, recordedBlock, withRecorded}
 use Rattle.block_state.specs.Step.{Left, left, bytesFrom}
-use Rattle.request_block2.specs.Block2 as block2
-use Rattle.request_block1.specs.Block1.{taken, onSplice, block1Given, badForm, notNext, lengthMet}
+use Rattle.request_step.specs.Block2 as block2
+use Rattle.request_step.specs.Block1.{taken, onSplice, block1Given, badForm, notNext, lengthMet}
 use Rattle.request_step.specs.Step.{onNegotiated, stepRequest}
 use Rattle.response_step.specs.Step.{chunked, onReply, stepResponse}
 use Rattle.places.specs.Places.{place, opened}
@@ -132,34 +132,62 @@ module _ (c : Config) (home away : ℕ) (s : BlockState) (u : List ℕ) (r : Req
 
 -- ---- a response's step: nothing is stored, or First is answered
 
-pub data Storing (c : Config) (s : BlockState) (d head payload : List ℕ) : Left → Type 0 where
-  as-before : (a : Answer) → isFirst a ≡ false → Storing c s d head payload (left s d a)
-  stores : (t : BlockState) (a : Answer) → isFirst a ≡ true → t .assembled ≡ s .assembled → t .cached ≡ caching (length head) (length payload)
-      → length head + length payload ≤ c .response
-      → Storing c s d head payload (left t (patch d 0 (head ++ payload)) a)
+module _ (c : Config) (s : BlockState) (d : List ℕ) (r : Response) where
+  -- what it negotiates, and the chunk that it cuts then
+  abbrev pub responds : Negotiated
+  responds = negotiated (recordedBlock (s .recorded)) (r .bare) (length (r .payload)) (c .limit)
 
-storing-chunk : (c : Config) (s : BlockState) (d head payload : List ℕ) (ch : Chunk) → Storing c s d head payload (chunked c s d head payload ch)
-unfolding chunked
-storing-chunk c s d head payload (chunk.Refused n) = as-before _ refl
-storing-chunk c s d head payload (chunk.Bytes b from to) =
-    on-test (Storing c s d head payload) (b .more)
-    (λ _. on-test (Storing c s d head payload) (ltb (c .response) (length head + length payload)) (λ _. as-before _ refl)
-    (λ n. stores _ _ refl refl refl (ltb-false (c .response) (length head + length payload) n)))
-    (λ _. as-before _ refl)
+  abbrev pub Cut : BlockValue → ℕ → ℕ → Type 0
+  Cut y from to = (b : BlockValue) × (responds ≡ agreed.Block b) × (chunkOf b (length (r .payload)) ≡ chunk.Bytes y from to)
 
-pub storing : (c : Config) (s : BlockState) (d : List ℕ) (r : Response) → Storing c s d (r .head) (r .payload) (stepResponse c s d r)
-unfolding stepResponse onReply
-storing c s d r = on-test (Storing c s d (r .head) (r .payload)) (r .own) (λ _. as-before _ refl) (λ _. replied (negotiated (recordedBlock (s .recorded)) (r .bare) (length (r .payload)) (c .limit)))
-  where
-    replied : (n : Negotiated) → Storing c s d (r .head) (r .payload) (onReply c s d (r .head) (r .payload) n)
-    replied (agreed.Refused n) = as-before _ refl
-    replied agreed.NoBlock = as-before _ refl
-    replied (agreed.Block b) = storing-chunk c s d (r .head) (r .payload) (chunkOf b (length (r .payload)))
+  -- the answers that store nothing
+  pub data Unstored : Answer → Type 0 where
+    plain : Unstored Plain
+    disagreed : (n : ℕ) → responds ≡ agreed.Refused n → Unstored (Refused n)
+    beyond : (b : BlockValue) (n : ℕ) → chunkOf b (length (r .payload)) ≡ chunk.Refused n → Unstored (Refused n)
+    crowded : Unstored (Refused 7)
+    whole : (y : BlockValue) (from to : ℕ) → Cut y from to → Unstored (Whole y (record { from = from; to = to }))
 
--- either way what is assembled stays
-pub storing-assembled : (c : Config) (s : BlockState) (d : List ℕ) (r : Response) (g : Left) → Storing c s d (r .head) (r .payload) g → g .state .assembled ≡ s .assembled
-storing-assembled c s d r g (as-before a no-first) = refl
-storing-assembled c s d r g (stores t a first same cached room) = same
+  pub data Storing : Left → Type 0 where
+    as-before : (a : Answer) → Unstored a → Storing (left s d a)
+    stores : (t : BlockState) (y : BlockValue) (from to : ℕ) → Cut y from to → t .assembled ≡ s .assembled → t .cached ≡ caching (length (r .head)) (length (r .payload))
+        → length (r .head) + length (r .payload) ≤ c .response
+        → Storing (left t (patch d 0 (r .head ++ r .payload)) (First y (record { from = from; to = to })))
+
+  storing-chunk : (b : BlockValue) → responds ≡ agreed.Block b → (ch : Chunk) → chunkOf b (length (r .payload)) ≡ ch → Storing (chunked c s d (r .head) (r .payload) ch)
+  unfolding chunked
+  storing-chunk b e (chunk.Refused n) is = as-before _ (beyond b n is)
+  storing-chunk b e (chunk.Bytes y from to) is =
+      on-test Storing (y .more)
+      (λ _. on-test Storing (ltb (c .response) (length (r .head) + length (r .payload))) (λ _. as-before _ crowded)
+      (λ n. stores _ y from to (b, e, is) refl refl (ltb-false (c .response) (length (r .head) + length (r .payload)) n)))
+      (λ _. as-before _ (whole y from to (b, e, is)))
+
+  storing-reply : (n : Negotiated) → responds ≡ n → Storing (onReply c s d (r .head) (r .payload) n)
+  unfolding onReply
+  storing-reply (agreed.Refused n) e = as-before _ (disagreed n e)
+  storing-reply agreed.NoBlock e = as-before _ plain
+  storing-reply (agreed.Block b) e = storing-chunk b e (chunkOf b (length (r .payload))) refl
+
+  pub storing : Storing (stepResponse c s d r)
+  unfolding stepResponse
+  storing = on-test Storing (r .own) (λ _. as-before _ plain) (λ _. storing-reply responds refl)
+
+  -- either way what is assembled stays
+  pub storing-assembled : stepResponse c s d r .state .assembled ≡ s .assembled
+  storing-assembled = of _ storing
+    where
+      of : (g : Left) → Storing g → g .state .assembled ≡ s .assembled
+      of g (as-before a k) = refl
+      of g (stores t y from to k same cached room) = same
+
+  -- and First is answered only if something is stored
+  pub unstored : (a : Answer) → Unstored a → isFirst a ≡ false
+  unstored a plain = refl
+  unstored a (disagreed n e) = refl
+  unstored a (beyond b n is) = refl
+  unstored a crowded = refl
+  unstored a (whole y from to k) = refl
 
 -- a call is refused by the first three checks, with nothing changed, or has its place
 pub early-or-placed : (P : Done → Type 0) (c : Config) (w : World) (q : Call) → ((n : ℕ) → (1 ≤ n) × (n ≤ 3) → P (done w (Refused n)))
@@ -173,12 +201,25 @@ early-or-placed P c w q early placed =
     (λ time. on-test P (leb 16 (place (q .key) (rowOf c w q))) (λ _. early 3 (omega arith, omega arith))
     (λ room. placed (not-false (withinLimits c w q) ok) (ltb-false (q .time) (w .table .clock) time) (leb-false 16 (place (q .key) (rowOf c w q)) room))))
 
--- so a request's answer is an early refusal, or that of an outcome on its key's state
-pub answered : (P : Answer → Type 0) (c : Config) (w : World) (q : Call) (r : Request) → q .what ≡ request r → ((n : ℕ) → (1 ≤ n) × (n ≤ 3) → P (Refused n))
-    → ((home away : ℕ) (u : List ℕ) (g : Left) → Outcome c home away (opened (q .key) (rowOf c w q) .state) u r g → P (g .answer)) → P (call c w q .answer)
-unfolding callAt
-answered P c w q r e early step =
-    let i : ℕ = place (q .key) (rowOf c w q) in
-    let u : List ℕ = pieceOf (c .upload) i (w .upload) in
-    early-or-placed (λ (d : Done). P (d .answer)) c w q early
-    (λ ok later i16. rw e (step (i * c .upload) (i * c .response) u _ (outcome c (i * c .upload) (i * c .response) (opened (q .key) (rowOf c w q) .state) u r)))
+-- so a call's answer is an early refusal, or that of an outcome on its key's state
+module _ (P : Answer → Type 0) (c : Config) (w : World) (q : Call) (early : (n : ℕ) → (1 ≤ n) × (n ≤ 3) → P (Refused n)) where
+  abbrev its-place : ℕ
+  its-place = place (q .key) (rowOf c w q)
+
+  abbrev its-state : BlockState
+  its-state = opened (q .key) (rowOf c w q) .state
+
+  pub answered : (r : Request) → q .what ≡ request r
+      → ((home away : ℕ) (u : List ℕ) (g : Left) → Outcome c home away its-state u r g → P (g .answer)) → P (call c w q .answer)
+  unfolding callAt
+  answered r e step =
+      let u : List ℕ = pieceOf (c .upload) its-place (w .upload) in
+      let home : ℕ = its-place * c .upload in
+      let away : ℕ = its-place * c .response in
+      early-or-placed (λ (d : Done). P (d .answer)) c w q early (λ ok later i16. rw e (step home away u _ (outcome c home away its-state u r)))
+
+  pub answered-response : (r : Response) → q .what ≡ response r → ((d : List ℕ) (g : Left) → Storing c its-state d r g → P (g .answer)) → P (call c w q .answer)
+  unfolding callAt
+  answered-response r e step =
+      let d : List ℕ = pieceOf (c .response) its-place (w .response) in
+      early-or-placed (λ (d : Done). P (d .answer)) c w q early (λ ok later i16. rw e (step d _ (storing c its-state d r)))

@@ -1,156 +1,172 @@
--- The client's next block at its entry: what one step leaves and answers, exactly, for every size and in either mode. Assumes nothing.
-use Prim.Native.Nat.{ℕ, suc, _+_, _-_, _*_, _≤_, _<_, min}
-use mathlib.Core.Bool.{Bool, true, false, cond, not, _&&_}
+-- The client's next block at its entry: what one step leaves and answers, exactly, for every size and in either mode. It speaks of offsets: where the block starts,
+-- and how much is assembled. Assumes nothing.
+use Prim.Native.Nat.{ℕ, _+_, _-_, _≤_, _<_, min}
+use mathlib.Core.Bool.{Bool, true, false, _&&_}
 use mathlib.Core.Path.{_≡_, refl, sym, _∙_, ap}
+use mathlib.Core.Logic.{inl, inr}
 use mathlib.Core.List.{List, [], _++_}
 use native.Mathlib.Omega.{arith}
 use native.Mathlib.Nat.{mul-div-cancel}
 use lib.ListN.{length, take, length-append}
-use lib.Dec.{eqb}
-use borrow.Author.Tests.{le-ltb, eq-eqb, ne-eqb}
+use borrow.Author.Tests.{le-ltb, ne-eqb}
 use Rattle.pieces.specs.Memory.{patch, part}
 use Rattle.splicing.specs.Splice.{splicedLength, spliceOf, pieceAfter}
 use Rattle.splicing.specs.declared.Splice.the-variants.{Body}
 use Rattle.pieces.proofs.Memory.{part-patch}
 use Rattle.splicing.proofs.Splicing.{spliced-next}
 use Rattle.splicing.proofs.Splicing as splicing
-use Rattle.block_value.specs.Value.{sizeOf}
+use Rattle.block_value.specs.Value.{blockSize, blockStart}
+use Rattle.block_value.specs.declared.BlockValue.{BlockValue}
 use Rattle.block_value.proofs.Laws.{size-least, size-most, exponent-size, made-well}
 use Rattle.negotiation.specs.Negotiation.{requestBlock, replyOf, negotiated}
 use Rattle.negotiation.specs.declared.MaybeBlock.the-variants.{Absent, Given}
 use Rattle.negotiation.specs.declared.Negotiated.the-variants.{Block}
 use Rattle.negotiation.proofs.Laws.{with-room, given-at, reply-made}
-use Rattle.block_state.specs.declared.Config.{Config}
+use Rattle.config.specs.declared.Config.{Config}
 use Rattle.block_state.specs.declared.Assembled.{Assembled}
 use Rattle.block_state.specs.declared.BlockState.{BlockState}
 use Rattle.block_state.specs.declared.Answer.the-variants.{Continue, Handed}
 use Rattle.block_state.specs.Message.{Request}
 use Rattle.block_state.specs.State.{assembly, withAssembled, withRecorded}
 use Rattle.block_state.specs.Step.{left, bytesFrom}
-use Rattle.request_block1.specs.Block1.{badForm, notNext, lengthMet, taken, block1Given}
+use Rattle.request_step.specs.Block1.{badForm, notNext, lengthMet}
 use Rattle.request_step.specs.Step.{stepRequest}
-use Rattle.request_block2.proofs.Steps.{onward-absent}
-use Rattle.request_block1.proofs.Steps.{taken-more, taken-last, spliced-body, given-next}
-use Rattle.request_step.proofs.Steps.{request-given}
 use Rattle.demands.specs.Demand3.{block, Fills}
+use Rattle.demands.specs.Agreed.{requestAgrees}
+use Rattle.demands.specs.Strict.{BadlyFormed}
+use Rattle.demands.proofs.Checks.{and-none, bad-not, NextAt, next-passes, first-passes, first-starts, meets-all, meets-afresh}
+use Rattle.demands.proofs.Step.{step-more, step-last}
+
+-- ---- a block as the client sends it
+
+-- the same block with no more, as the reply has it
+abbrev pub unmarked : BlockValue → BlockValue
+unmarked b = block (b .num) false (b .«size_exponent»)
 
 -- a block that is left room comes out of the negotiation as it was asked, with no more, since its payload is no longer than its size
-pub room-agreed : (j : ℕ) (m : Bool) (x bare p t : ℕ) → j ≤ 65535 → x ≤ 7 → p ≤ sizeOf x → bare + 12 + sizeOf x ≤ t
-    → negotiated (Given (block j m x)) bare p t ≡ Block (block j false x)
-room-agreed j m x bare p t hj hx hp h =
-    let pos : 0 < sizeOf x = omega (arith, size-least x) in
-    let nz : sizeOf x ≡ 0 → ⊥ = λ e. omega arith in
-    let g : min (sizeOf x) (t - bare - 12) ≡ sizeOf x = omega arith in
-    with-room (Given (block j m x)) bare p t (t - bare - 12) (omega arith) refl
-    ∙ given-at (Given (block j m x)) p (t - bare - 12) (block j m x) refl
-    ∙ rw g (reply-made (j * sizeOf x) (sizeOf x) p nz
-    ∙ rw (mul-div-cancel j pos, le-ltb (j * sizeOf x + sizeOf x) p (omega arith))
-    (ap replyOf (made-well j false (sizeOf x) nz x (sym (exponent-size x hx)) hx hj)))
+pub room-agreed : (b : BlockValue) (bare p t : ℕ) → b .num ≤ 65535 → b .«size_exponent» ≤ 7 → p ≤ blockSize b → bare + 12 + blockSize b ≤ t
+    → negotiated (Given b) bare p t ≡ Block (unmarked b)
+room-agreed b bare p t hn hx hp h =
+    let size : ℕ = blockSize b in
+    let pos : 0 < size = omega (arith, size-least (b .«size_exponent»)) in
+    let nz : size ≡ 0 → ⊥ = λ e. omega arith in
+    let g : min size (t - bare - 12) ≡ size = omega arith in
+    with-room (Given b) bare p t (t - bare - 12) (omega arith) refl
+    ∙ given-at (Given b) p (t - bare - 12) b refl
+    ∙ rw g (reply-made (blockStart b) size p nz
+    ∙ rw (mul-div-cancel (b .num) pos, le-ltb (blockStart b + size) p (omega arith))
+    (ap replyOf (made-well (b .num) false size nz (b .«size_exponent») (sym (exponent-size (b .«size_exponent») hx)) hx hn)))
 
--- the entry meets block j of exponent x with these bytes assembled at the start of its piece u
-pub record Meets (c : Config) (a : Assembled) (u : List ℕ) (x j : ℕ) (bytes : List ℕ) : Type 0 where
-  pub count : length bytes ≡ j * sizeOf x
-  pub from : (m : Bool) → lengthMet (c .strict) a (block j m x) ≡ length bytes
-  pub next : (m : Bool) → (c .strict && notNext a (block j m x)) ≡ false
+pub record OneBlock (c : Config) (b : BlockValue) (r : Request) : Type 0 where
+  pub size : b .«size_exponent» ≤ 6
+  pub count : b .num ≤ 4095
+  pub numbered : requestBlock (r .block1) ≡ Given b
+  pub full : Fills (b .more) (length (r .payload)) (blockSize b)
+  pub alone : requestBlock (r .block2) ≡ Absent
+  pub room : r .bare + 12 + blockSize b ≤ c .limit
+
+module _ (c : Config) (b : BlockValue) (r : Request) (one : OneBlock c b r) where
+  pub fills-most : length (r .payload) ≤ blockSize b
+  fills-most = most (b .more) (one .full)
+    where
+      most : (m : Bool) → Fills m (length (r .payload)) (blockSize b) → length (r .payload) ≤ blockSize b
+      most true e = omega arith
+      most false h = h
+
+  pub form-ok : (c .strict && badForm b (length (r .payload))) ≡ false
+  form-ok = and-none (c .strict) _ (bad-not b (length (r .payload)) well)
+    where
+      well : BadlyFormed b (length (r .payload)) → ⊥
+      well (inl seven) = omega (arith, one .size)
+      well (inr (inl long)) = omega (arith, fills-most)
+      well (inr (inr short)) = short .1 (rw (short .0) at (one .full))
+
+  pub agreed : requestAgrees c r ≡ Block (unmarked b)
+  agreed =
+      rw (one .numbered)
+      (room-agreed b (r .bare) (length (r .payload)) (c .limit) (omega (arith, one .count)) (omega (arith, one .size)) fills-most (one .room))
+
+-- ---- an upload under way
+
+-- The entry meets block b with these bytes assembled at the start of its piece u: the block starts where they end, and strict mode lets it pass.
+pub record Meets (c : Config) (a : Assembled) (u : List ℕ) (bytes : List ℕ) (b : BlockValue) : Type 0 where
+  pub starts : blockStart b ≡ length bytes
+  pub from : lengthMet (c .strict) a b ≡ length bytes
+  pub passes : (c .strict && notNext a b) ≡ false
   pub held : take (length bytes) u ≡ bytes
 
-pub and-false : (b : Bool) → (b && false) ≡ false
-and-false true = refl
-and-false false = refl
+-- Block 0 is met so where nothing is assembled; in strict mode whatever is assembled.
+pub meets-first : (c : Config) (a : Assembled) (u : List ℕ) (b : BlockValue) → b .num ≡ 0 → (c .strict ≡ false → a .len ≡ 0) → Meets c a u [] b
+meets-first c a u b first none =
+    record {
+      starts = first-starts b first;
+      from = meets-afresh (c .strict) a b first none;
+      passes = and-none (c .strict) _ (first-passes a b first);
+      held = refl;
+    }
 
--- block j of exponent x, as the client sends it
-pub record OneBlock (c : Config) (x j : ℕ) (m : Bool) (r : Request) : Type 0 where
-  pub size : x ≤ 6
-  pub count : j ≤ 4095
-  pub numbered : requestBlock (r .block1) ≡ Given (block j m x)
-  pub full : Fills m (length (r .payload)) (sizeOf x)
-  pub alone : requestBlock (r .block2) ≡ Absent
-  pub room : r .bare + 12 + sizeOf x ≤ c .limit
+-- The blocks so far sent these bytes: they are what is assembled, and block b is next, from where they end and with the exponent that was kept.
+pub record UnderWay (a : Assembled) (u : List ℕ) (bytes : List ℕ) (b : BlockValue) : Type 0 where
+  pub len : a .len ≡ length bytes
+  pub held : take (a .len) u ≡ bytes
+  pub next : NextAt (a .len) (a .exponent) b
+
+pub meets-next : (c : Config) (a : Assembled) (u : List ℕ) (bytes : List ℕ) (b : BlockValue) → UnderWay a u bytes b → Meets c a u bytes b
+meets-next c a u bytes b way =
+    record {
+      starts = way .next .0 ∙ way .len;
+      from = meets-all (c .strict) a b (λ _ first. sym (way .next .0) ∙ first-starts b first) ∙ way .len;
+      passes = and-none (c .strict) _ (next-passes a b (way .next));
+      held = rw (way .len) at (way .held);
+    }
 
 pub held-after : (u b : List ℕ) → take (length b) (patch u 0 b) ≡ b
 unfolding part
 held-after u b = part-patch u 0 b (omega arith)
 
-module _ (c : Config) (r : Request) (x j : ℕ) (m : Bool) (b : OneBlock c x j m r) where
-  pub fills-most : length (r .payload) ≤ sizeOf x
-  fills-most = most m (b .full)
-    where
-      most : (m : Bool) → Fills m (length (r .payload)) (sizeOf x) → length (r .payload) ≤ sizeOf x
-      most true e = omega arith
-      most false h = h
+-- a payload that starts where the assembled bytes end goes behind them
+pub appended : (u bytes : List ℕ) (size : ℕ) (p : List ℕ) → take (length bytes) u ≡ bytes → pieceAfter u (length bytes) (length bytes) size p ≡ patch u 0 (bytes ++ p)
+unfolding pieceAfter
+appended u bytes size p held = rw (held, spliced-next bytes size p)
 
-  pub form-ok : (c .strict && badForm (block j m x) (length (r .payload))) ≡ false
-  unfolding badForm
-  form-ok = rw (ne-eqb x 7 (λ e. omega (arith, b .size)), le-ltb (sizeOf x) (length (r .payload)) fills-most) (well m (b .full))
-    where
-      well : (m : Bool) → Fills m (length (r .payload)) (sizeOf x) → (c .strict && (m && not (eqb (length (r .payload)) (sizeOf x)))) ≡ false
-      well true e = rw (eq-eqb (length (r .payload)) (sizeOf x) e) (and-false (c .strict))
-      well false h = and-false (c .strict)
+pub appended-length : (bytes : List ℕ) (size : ℕ) (p : List ℕ) → splicedLength (length bytes) (length bytes) size (length p) ≡ length (bytes ++ p)
+appended-length bytes size p = rw (length-append bytes p) (omega arith)
 
-module _ (c : Config) (home at : ℕ) (s : BlockState) (u : List ℕ) (r : Request) (x j : ℕ) (m : Bool) (b : OneBlock c x j m r) where
-  -- the step goes on with the block as it was sent, and with no more in the reply
-  pub agrees : stepRequest c home at s u r ≡ block1Given c home at s u Absent (r .payload) (block j m x) (block j false x)
-  agrees =
-      let reply = room-agreed j m x (r .bare) (length (r .payload)) (c .limit) (omega (arith, b .count)) (omega (arith, b .size)) (fills-most c r x j m b) (b .room) in
-      request-given c home at s u r (Given (block j m x)) Absent (Block (block j false x)) (sym (b .numbered)) (sym (b .alone)) (sym reply) (block j m x) (block j false x) refl refl
+-- ---- its next block
 
-  module _ (bytes : List ℕ) (meets : Meets c (s .assembled) u x j bytes) (fits : length (bytes ++ r .payload) ≤ c .upload) where
-    abbrev joins : List ℕ
-    joins = bytes ++ r .payload
+module _ (c : Config) (home away : ℕ) (s : BlockState) (u : List ℕ) (r : Request) (b : BlockValue) (one : OneBlock c b r) (bytes : List ℕ)
+    (meets : Meets c (s .assembled) u bytes b) (fits : length (bytes ++ r .payload) ≤ c .upload) where
+  abbrev joins : List ℕ
+  joins = bytes ++ r .payload
 
-    -- the block is appended to the bytes that are assembled
-    appended : pieceAfter u (length bytes) (j * sizeOf x) (sizeOf x) (r .payload) ≡ patch u 0 joins
-    unfolding pieceAfter
-    appended = rw (meets .held, ← (meets .count), spliced-next bytes (sizeOf x) (r .payload))
+  piece : pieceAfter u (length bytes) (blockStart b) (blockSize b) (r .payload) ≡ patch u 0 joins
+  piece = rw (meets .starts) (appended u bytes (blockSize b) (r .payload) (meets .held))
 
-    body : spliceOf (c .upload) (length bytes) (j * sizeOf x) (sizeOf x) (length (r .payload)) ≡ Body (length joins)
-    body =
-        let n : splicedLength (length bytes) (j * sizeOf x) (sizeOf x) (length (r .payload)) ≡ length joins =
-        rw (← (meets .count), length-append bytes (r .payload)) (omega arith) in
-        splicing.taken (c .upload) (length bytes) (j * sizeOf x) (sizeOf x) (length (r .payload)) (omega (arith, meets .count, size-most x)) (omega arith)
-        ∙ ap Body n
+  body : spliceOf (c .upload) (length bytes) (blockStart b) (blockSize b) (length (r .payload)) ≡ Body (length joins)
+  body =
+      let n = appended-length bytes (blockSize b) (r .payload) in
+      rw (meets .starts)
+      (splicing.taken (c .upload) (length bytes) (length bytes) (blockSize b) (length (r .payload)) (omega (arith, size-most (b .«size_exponent»))) (omega arith)
+      ∙ ap Body n)
 
-    reaches : stepRequest c home at s u r ≡ taken home at s (patch u 0 joins) Absent (block j m x) (block j false x) (length joins)
-    reaches =
-        agrees
-        ∙ given-next c home at s u Absent (r .payload) (block j m x) (block j false x) (form-ok c r x j m b) (meets .next m) (length bytes) (sym (meets .from m))
-        ∙ spliced-body home at s u Absent (r .payload) (block j m x) (block j false x) (length bytes) _ (length joins) body
-        ∙ rw appended
+  pub own-more : b .more ≡ true
+      → stepRequest c home away s u r ≡ left (withAssembled s (assembly (length joins) (b .«size_exponent»))) (patch u 0 joins) (Continue (unmarked b))
+  own-more =
+      step-more c home away s u r b (unmarked b) (one .numbered) (agreed c b r one) (form-ok c b r one) (meets .passes) (length bytes) (meets .from)
+      (length joins) (patch u 0 joins) body piece
 
-    pub own-more : m ≡ true
-        → stepRequest c home at s u r ≡ left (withAssembled s (assembly (length joins) x)) (patch u 0 joins) (Continue (block j false x))
-    own-more e = reaches ∙ taken-more home at s (patch u 0 joins) Absent (block j m x) (block j false x) (length joins) e
+  pub own-last : b .more ≡ false
+      → stepRequest c home away s u r
+      ≡ left (withRecorded (withAssembled s (assembly 0 0)) Absent) (patch u 0 joins) (Handed (unmarked b) (bytesFrom home (length joins)))
+  own-last last =
+      step-last c home away s u r b (unmarked b) (one .numbered) (agreed c b r one) (form-ok c b r one) (meets .passes) (length bytes) (meets .from)
+      (length joins) (patch u 0 joins) body piece last (one .alone)
 
-    pub own-last : m ≡ false
-        → stepRequest c home at s u r ≡ left (withRecorded (withAssembled s (assembly 0 0)) Absent) (patch u 0 joins) (Handed (block j false x) (bytesFrom home (length joins)))
-    own-last e =
-        reaches ∙ taken-last home at s (patch u 0 joins) Absent (block j m x) (block j false x) (length joins) e
-        ∙ onward-absent at (withAssembled s (assembly 0 0)) (patch u 0 joins) Absent (Given (block j false x)) (Handed (block j false x) (bytesFrom home (length joins))) refl
-
--- ---- before block 0, and after any block that was taken, the entry meets the next
-
-pub meets-first : (c : Config) (a : Assembled) (u : List ℕ) (x : ℕ) → (c .strict ≡ false → a .len ≡ 0) → Meets c a u x 0 []
-unfolding lengthMet notNext
-meets-first c a u x h = record { count = omega arith; from = λ m. met (c .strict) (a .len) h; next = λ m. and-false (c .strict); held = refl }
-  where
-    met : (b : Bool) (n : ℕ) → (b ≡ false → n ≡ 0) → cond (b && true) 0 n ≡ 0
-    met true n e = refl
-    met false n e = e refl
-
-pub meets-next : (c : Config) (u : List ℕ) (x j : ℕ) (bytes p : List ℕ) → length bytes ≡ j * sizeOf x → length p ≡ sizeOf x
-    → Meets c (assembly (length (bytes ++ p)) x) (patch u 0 (bytes ++ p)) x (suc j) (bytes ++ p)
-unfolding lengthMet notNext
-meets-next c u x j bytes p hc hp =
-    let n : length (bytes ++ p) ≡ suc j * sizeOf x = omega (arith, length-append bytes p) in
-    let nz : eqb (length (bytes ++ p)) 0 ≡ false = ne-eqb (length (bytes ++ p)) 0 (λ e. omega (arith, size-least x, length-append bytes p)) in
-    record {
-      count = n;
-      from = λ m. rw (ne-eqb (suc j) 0 (λ e. omega arith)) (rw (and-false (c .strict)) refl);
-      next = λ m. rw (nz, eq-eqb (suc j * sizeOf x) (length (bytes ++ p)) (sym n), eq-eqb x x refl) (rest (c .strict) (not (eqb (suc j) 0)));
-      held = held-after u (bytes ++ p);
-    }
-  where
-    rest : (b t : Bool) → (b && (t && false)) ≡ false
-    rest true true = refl
-    rest true false = refl
-    rest false t = refl
+  -- after a marked block, the upload is under way to any block that starts where this one ends, with its exponent
+  pub under-way : b .more ≡ true → (n : BlockValue) → NextAt (blockStart b + length (r .payload)) (b .«size_exponent») n
+      → UnderWay (assembly (length joins) (b .«size_exponent»)) (patch u 0 joins) joins n
+  under-way more n next =
+      let full : length (r .payload) ≡ blockSize b = rw more at (one .full) in
+      let nz = ne-eqb (length joins) 0 (λ e. omega (arith, size-least (b .«size_exponent»), length-append bytes (r .payload))) in
+      let end : blockStart b + length (r .payload) ≡ length joins = rw (meets .starts, length-append bytes (r .payload)) in
+      record { len = refl; held = held-after u joins; next = rw nz (rw end at next) }

@@ -6,7 +6,7 @@ use mathlib.Core.Logic.{_≢_}
 use mathlib.Core.List.{List, [], _∷_, _++_}
 use mathlib.Core.Option.{Option, none, some}
 use native.Mathlib.Omega.{arith}
-use lib.ListN.{length, set, take, drop, length-append, getD-replicate}
+use lib.ListN.{length, set, take, drop, length-append}
 use lib.Seq.{take-take, take-at, drop-at}
 use lib.Dec.{leb}
 use Rattle.pieces.specs.Memory.{patch, part as bytesIn, pieceOf, putPiece}
@@ -20,7 +20,7 @@ use Rattle.negotiation.specs.declared.MaybeBlock.{MaybeBlock}
 use Rattle.negotiation.specs.declared.MaybeBlock.the-variants.{Given}
 use Rattle.negotiation.specs.declared.Chunk.{Chunk}
 use Rattle.negotiation.specs.declared.Chunk.the-variants as chunk
-use Rattle.block_state.specs.declared.Config.{Config}
+use Rattle.config.specs.declared.Config.{Config}
 use Rattle.block_state.specs.declared.Cached.{Cached}
 use Rattle.block_state.specs.declared.BlockState.{BlockState}
 use Rattle.block_state.specs.declared.Part.{Part}
@@ -45,10 +45,10 @@ use Rattle.block_handler.specs.Call.{World, Call, Done, callAt, rowOf, call}
 use Rattle.block_handler.proofs.Frame.{WorldFits, call-cases, call-fits}
 use Rattle.demands.specs.Demand3.{after, AllBytes, entryAt}
 use Rattle.demands.proofs.OwnStep.{held-after}
-use Rattle.demands.proofs.Outcomes.{cond-same, Storing, as-before, stores, storing, Outcome, refused, past, tooLarge, continued, onwards, serves, none as no-block1, took, outcome}
-use Rattle.demands.proofs.Runs.{fresh-fits, after-fits}
+use Rattle.demands.proofs.Outcomes.{cond-same, Storing, as-before, stores, storing, unstored, Outcome, refused, past, tooLarge, continued, onwards, serves, none as no-block1, took, outcome}
+use Rattle.demands.proofs.Runs.{fresh-entry, fresh-fits, after-fits}
 use Rattle.demands.proofs.Push.{shown-part}
-use Rattle.demands.specs.Pages.{Page, storedBy, noted, lastStored, ShowsPage, ServesThePage}
+use Rattle.demands.specs.Pages.{Page, isFirst, storedBy, noted, lastStored, ShowsPage, ServesThePage}
 
 -- ---- a request's step: the cache stays or goes
 
@@ -173,17 +173,18 @@ module _ (c : Config) (w : World) (q : Call) (k : List ℕ) (p : Option Page) (f
         subst (λ (y : Cached). Caches c (w .response) here y p) (sym z) (opened-entry b y (sym (ap (λ (y : Cached). y .held) z) ∙ held)))
         (λ j h ne. old-entry j (omega (arith, long))) i (omega (arith, long))
 
-    stored-entry : (r : Response) (g : Left) → Storing c (e .state) (pieceOf (c .response) here (w .response)) (r .head) (r .payload) g → (i : ℕ) → i < 16
+    stored-entry : (r : Response) (g : Left) → Storing c (e .state) (pieceOf (c .response) here (w .response)) r g → (i : ℕ) → i < 16
         → OfKey c (putPiece (c .response) here (g .piece) (w .response)) k (cond (same k (q .key)) (storedBy (response r) (g .answer) p) p) i
         (at (set found here (inUse (e .key) (q .time) (g .state))) i)
-    stored-entry r g (as-before a no-first) i i16 =
+    stored-entry r g (as-before a answers) i i16 =
         let back : putPiece (c .response) here (pieceOf (c .response) here (w .response)) (w .response) ≡ w .response = put-self in
+        let no-first : isFirst a ≡ false = unstored c (e .state) (pieceOf (c .response) here (w .response)) r a answers in
         let none-new : cond (same k (q .key)) (storedBy (response r) a p) p ≡ p = rw no-first (cond-same (same k (q .key)) p) in
         rw (back, none-new) (put-back (e .state) (λ _. refl) i i16)
       where
         put-self : putPiece (c .response) here (pieceOf (c .response) here (w .response)) (w .response) ≡ w .response
         put-self = piece-self (c .response) here (w .response) in-memory
-    stored-entry r g (stores t a yes-first unmoved ec room) i i16 =
+    stored-entry r g (stores t chunk from to cut unmoved ec room) i i16 =
         let page : Page = record { head = r .head; payload = r .payload } in
         let body : List ℕ = r .head ++ r .payload in
         let n : length body ≡ length (r .head) + length (r .payload) = length-append (r .head) (r .payload) in
@@ -195,7 +196,7 @@ module _ (c : Config) (w : World) (q : Call) (k : List ℕ) (p : Option Page) (f
         by-cases (same k (q .key))
         (λ y.
         let z : k ≡ q .key = same-eq k (q .key) y in
-        rw (y, yes-first)
+        rw y
         (at-set found here (inUse (e .key) (q .time) t) in-row (OfKey c mem k (some page))
         (λ h held.
         record {
@@ -323,9 +324,6 @@ pub serves-the-page : ServesThePage call
 unfolding ServesThePage
 serves-the-page c w calls q r block1 b head part fresh ab er e =
     let f : WorldFits c w = fresh-fits c w fresh in
-    let known : Known c w (q .key) none = λ i i16 h held. absurd (false≢true (rw (at-fresh i i16) at held)) in
+    let known : Known c w (q .key) none = λ i i16 h held. absurd (false≢true (rw (fresh-entry w (fresh .table) i i16) at held)) in
     served-page c (after call c w calls) q (lastStored call c w (q .key) none calls) r block1 b head part (after-fits c calls w f ab)
     (known-run c (q .key) calls w none f ab known) er e
-  where
-    at-fresh : (i : ℕ) → i < 16 → entryAt w i ≡ free
-    at-fresh i i16 = rw (fresh .table) (getD-replicate 16 i free free i16)

@@ -12,11 +12,13 @@ use borrow.Author.Tests.{ltb-true, leb-true, le-leb}
 use Rattle.pieces.specs.Memory.{part, pieceOf}
 use Rattle.pieces.proofs.Memory.{within-there, piece-order}
 use Rattle.pieces.proofs.Tests.{ands, and-both, by-cases}
-use Rattle.block_value.specs.Value.{sizeOf}
+use Rattle.block_value.specs.Value.{sizeOf, blockStart}
+use Rattle.block_value.specs.declared.BlockValue.{BlockValue}
 use Rattle.block_value.proofs.Laws.{size-most}
 use Rattle.negotiation.specs.Negotiation.{requestBlock}
 use Rattle.negotiation.specs.declared.MaybeBlock.the-variants.{Absent, Given}
-use Rattle.block_state.specs.declared.Config.{Config}
+use Rattle.config.specs.declared.Config.{Config}
+use Rattle.block_state.specs.declared.BlockState.{BlockState}
 use Rattle.block_state.specs.Message.{Request, request, WhatBytes}
 use Rattle.block_state.specs.Answers.{said, continue}
 use Rattle.block_state.specs.State.{assembly}
@@ -43,7 +45,8 @@ use Rattle.demands.specs.Demand3.{HasLive, HasFree, NothingInPlain, Bloc
 use Rattle.demands.specs.Clocks.{requestsOn, runOn, OwnRising}
 use Rattle.demands.specs.Touch.{HandsTo}
 use Rattle.demands.specs.Twice.{lastOf}
-use Rattle.demands.proofs.OwnStep.{Meets, OneBlock, fills-most, held-after, own-more, own-last, meets-first, meets-next}
+use Rattle.demands.proofs.Checks.{NextAt, next-same}
+use Rattle.demands.proofs.OwnStep.{OneBlock, fills-most, Meets, meets-first, UnderWay, meets-next, held-after, own-more, own-last, under-way}
 use Rattle.demands.proofs.Runs.{asks-own, all-front, all-behind, after-cut, seen-cut, none-seen, Cut, cut, rising-cut, after-clock}
 use Rattle.demands.proofs.Held.{Held, held-place, held-opened, held-others}
 
@@ -54,11 +57,11 @@ unfolding configOk
 limit-most c h = leb-true (c .limit) 65535 (search ands)
 
 -- a block's message is within the limits
-pub message-ok : (c : Config) (r : Request) (x j : ℕ) (m : Bool) → configOk c ≡ true → OneBlock c x j m r → whatOk (request r) ≡ true
+pub message-ok : (c : Config) (r : Request) (b : BlockValue) → configOk c ≡ true → OneBlock c b r → whatOk (request r) ≡ true
 unfolding whatOk
-message-ok c r x j m ok b =
-    and-both (leb (r .bare) 65535) (leb (length (r .payload)) 65535) (le-leb (r .bare) 65535 (omega (arith, b .room, limit-most c ok)))
-    (le-leb (length (r .payload)) 65535 (omega (arith, fills-most c r x j m b, size-most x)))
+message-ok c r b ok one =
+    and-both (leb (r .bare) 65535) (leb (length (r .payload)) 65535) (le-leb (r .bare) 65535 (omega (arith, one .room, limit-most c ok)))
+    (le-leb (length (r .payload)) 65535 (omega (arith, fills-most c b r one, size-most (b .«size_exponent»))))
 
 -- a row with an entry that is not in use has a place for every key
 place-free : (k : List ℕ) (l : List Entry) (i : ℕ) → length l ≡ 16 → i < 16 → at l i .used ≡ false → place k l < 16
@@ -74,24 +77,24 @@ shown-part m u i n h k =
     let e : i * u + n - i * u ≡ n = omega arith in
     sym (rw e at (within-there m (i * u) (i * u + n) (omega arith) (omega arith))) ∙ sym (take-take n u _ k)
 
--- ---- block j has come: it has a place, and the entry there meets it
+-- ---- block b has come: it has a place, and the entry there meets it with these bytes
 
-pub record Ready (c : Config) (w : World) (k : List ℕ) (x j time : ℕ) (bytes : List ℕ) : Type 0 where
+pub record Ready (c : Config) (w : World) (k : List ℕ) (time : ℕ) (bytes : List ℕ) (b : BlockValue) : Type 0 where
   pub fits : WorldFits c w
   pub later : w .table .clock ≤ time
   pub placed : place k (row c (w .table) time) < 16
-  pub meets : Meets c (opened k (row c (w .table) time) .state .assembled) (pieceOf (c .upload) (place k (row c (w .table) time)) (w .upload)) x j bytes
+  pub meets : Meets c (opened k (row c (w .table) time) .state .assembled) (pieceOf (c .upload) (place k (row c (w .table) time)) (w .upload)) bytes b
 
--- a later block: the entry meets it
-ready-next : (c : Config) (w : World) (k : List ℕ) (x i j last time : ℕ) (bytes : List ℕ) → Held c w k i last
-    → Meets c (entryAt w i .state .assembled) (pieceOf (c .upload) i (w .upload)) x j bytes → w .table .clock ≤ time → time < last + c .lifetime
-    → Ready c w k x j time bytes
-ready-next c w k x i j last time bytes g meets later soon =
+-- a later block: the upload is under way in the key's entry
+ready-next : (c : Config) (w : World) (k : List ℕ) (i last time : ℕ) (bytes : List ℕ) (b : BlockValue) → Held c w k i last
+    → UnderWay (entryAt w i .state .assembled) (pieceOf (c .upload) i (w .upload)) bytes b → w .table .clock ≤ time → time < last + c .lifetime
+    → Ready c w k time bytes b
+ready-next c w k i last time bytes b g way later soon =
     let p = held-place c w k i last g time soon in
-    record { fits = g .fits; later = later; placed = rw p (g .slot); meets = rw (held-opened c w k i last g time soon, p) meets }
+    record { fits = g .fits; later = later; placed = rw p (g .slot); meets = meets-next c _ _ bytes b (rw (held-opened c w k i last g time soon, p) way) }
 
 -- the first: it has a place, and meets nothing assembled, or in strict mode starts afresh
-module _ (c : Config) (w : World) (k : List ℕ) (x time : ℕ) (f : WorldFits c w) (later : w .table .clock ≤ time) where
+module _ (c : Config) (w : World) (k : List ℕ) (time : ℕ) (f : WorldFits c w) (later : w .table .clock ≤ time) where
   abbrev found : List Entry
   found = row c (w .table) time
 
@@ -119,13 +122,13 @@ module _ (c : Config) (w : World) (k : List ℕ) (x time : ℕ) (f : WorldFits c
       rw (opened-own k found u, row-live c (w .table) time (f .table) (f .sixteen) i (s .0)) (nothing i p (s .1) (s .0)))
       (λ n. rw (opened-new k found n))
 
-  pub ready-first : place k found < 16 → NothingInPlain c w time k → Ready c w k x 0 time []
-  ready-first p nothing = record { fits = f; later = later; placed = p; meets = meets-first c _ _ x (λ plain. none-first (nothing plain) p) }
+  pub ready-first : (b : BlockValue) → b .num ≡ 0 → place k found < 16 → NothingInPlain c w time k → Ready c w k time [] b
+  ready-first b zero p nothing = record { fits = f; later = later; placed = p; meets = meets-first c _ _ b zero (λ plain. none-first (nothing plain) p) }
 
 -- ---- a block of the client's
 
-module _ (c : Config) (w : World) (k : List ℕ) (x j : ℕ) (m : Bool) (s : Sent) (bytes : List ℕ) (g : Ready c w k x j (s .time) bytes)
-    (named : keyOk k ≡ true) (hb : WhatBytes (request (s .message))) (b : OneBlock c x j m (s .message))
+module _ (c : Config) (w : World) (k : List ℕ) (b : BlockValue) (s : Sent) (bytes : List ℕ) (g : Ready c w k (s .time) bytes b)
+    (named : keyOk k ≡ true) (hb : WhatBytes (request (s .message))) (one : OneBlock c b (s .message))
     (fit : length (bytes ++ s .message .payload) ≤ c .upload) where
   abbrev entries : List Entry
   entries = row c (w .table) (s .time)
@@ -142,34 +145,44 @@ module _ (c : Config) (w : World) (k : List ℕ) (x j : ℕ) (m : Bool) (s : Sen
   abbrev then : World
   then = call c w (callOn k s) .world
 
-  took : Took c (call c w (callOn k s)) here (s .time) (opened k entries .key)
-      (stepRequest c (here * c .upload) (here * c .response) (opened k entries .state) piece (s .message))
-  took = request-took c w (callOn k s) (g .fits) named (g .later) (g .placed) (s .message) refl hb (message-ok c (s .message) x j m (g .fits .config) b)
+  abbrev home : ℕ
+  home = here * c .upload
+
+  abbrev away : ℕ
+  away = here * c .response
+
+  abbrev state : BlockState
+  state = opened k entries .state
+
+  took : Took c (call c w (callOn k s)) here (s .time) (opened k entries .key) (stepRequest c home away state piece (s .message))
+  took = request-took c w (callOn k s) (g .fits) named (g .later) (g .placed) (s .message) refl hb (message-ok c (s .message) b (g .fits .config) one)
 
   block-clock : then .table .clock ≡ s .time
   block-clock = took .clock
 
   block-held : Held c then k here (s .time)
   block-held =
+      let key = opened-key k entries (row-length c (w .table) (s .time) (g .fits .table) (g .fits .sixteen)) in
       record {
         fits = call-fits c w (callOn k s) hb (g .fits);
         slot = g .placed;
-        held = rw (took .entry) (holds-new k k (opened k entries .key) (s .time) _ (opened-key k entries (row-length c (w .table) (s .time) (g .fits .table) (g .fits .sixteen))) ∙ same-refl k);
+        held = rw (took .entry) (holds-new k k (opened k entries .key) (s .time) _ key ∙ same-refl k);
         touched = rw (took .entry) (omega arith);
       }
 
-  block-more : m ≡ true
+  -- a marked block is answered Continue, and the upload is under way to any block that goes on from it
+  block-more : b .more ≡ true → (n : BlockValue) → NextAt (blockStart b + length (s .message .payload)) (b .«size_exponent») n
       → (said (call c w (callOn k s) .answer) .kind ≡ continue)
-      × Meets c (entryAt then here .state .assembled) (pieceOf (c .upload) here (then .upload)) x (suc j) joins
-  block-more more =
-      let t = rw (own-more c (here * c .upload) (here * c .response) (opened k entries .state) piece (s .message) x j m b bytes (g .meets) fit more) at took in
-      (rw (t .answer), rw (t .entry, t .piece) (meets-next c piece x j bytes (s .message .payload) (g .meets .count) (rw more at (b .full))))
+      × UnderWay (entryAt then here .state .assembled) (pieceOf (c .upload) here (then .upload)) joins n
+  block-more more n next =
+      let t = rw (own-more c home away state piece (s .message) b one bytes (g .meets) fit more) at took in
+      (rw (t .answer), rw (t .entry, t .piece) (under-way c home away state piece (s .message) b one bytes (g .meets) fit more n next))
 
-  block-last : m ≡ false → HandsTo joins call c w (callOn k s) × (entryAt then here .state .assembled ≡ assembly 0 0)
+  block-last : b .more ≡ false → HandsTo joins call c w (callOn k s) × (entryAt then here .state .assembled ≡ assembly 0 0)
   block-last last =
-      let t = rw (own-last c (here * c .upload) (here * c .response) (opened k entries .state) piece (s .message) x j m b bytes (g .meets) fit last) at took in
+      let t = rw (own-last c home away state piece (s .message) b one bytes (g .meets) fit last) at took in
       let f = call-fits c w (callOn k s) hb (g .fits) in
-      let in-upload : here * c .upload + c .upload ≤ length (then .upload) = omega (arith, f .upload, piece-order here 16 (c .upload) (g .placed)) in
+      let in-upload : home + c .upload ≤ length (then .upload) = omega (arith, f .upload, piece-order here 16 (c .upload) (g .placed)) in
       let shown = shown-part (then .upload) (c .upload) here (length joins) in-upload fit ∙ ap (take (length joins)) (t .piece) ∙ held-after piece joins in
       ((rw (t .answer), rw (t .answer) shown), rw (t .entry))
 
@@ -234,72 +247,103 @@ module _ (c : Config) (w : World) (k : List ℕ) (last n : ℕ) (bytes : List �
       first [] h = absurd h
       first (t ∷ l) h = (a, h)
 
-module _ (c : Config) (k : List ℕ) (x : ℕ) (named : keyOk k ≡ true) where
+-- The client's blocks from s on, whose value is b: each is marked but the last, and the one behind it goes on where it ends.
+abbrev pub Follow : Config → BlockValue → Sent → List Sent → Type 0
+Follow c b s [] = OneBlock c b (s .message) × (b .more ≡ false)
+Follow c b s (t ∷ rest) =
+    OneBlock c b (s .message) × (b .more ≡ true)
+    × (n : BlockValue) × NextAt (blockStart b + length (s .message .payload)) (b .«size_exponent») n × Follow c n t rest
+
+module _ (c : Config) (k : List ℕ) (named : keyOk k ≡ true) where
   -- what is to be shown of a block with these behind it
   abbrev pub From : List Sent → Type 0
   From rest =
-      (w : World) (j : ℕ) (bytes : List ℕ) (s : Sent) (calls tail : List Call) → Ready c w k x j (s .time) bytes
-      → Each (OneBlock c x) j s rest → Prompt (c .lifetime) (s .time) rest → length (bytes ++ joined s rest) ≤ c .upload
+      (w : World) (b : BlockValue) (bytes : List ℕ) (s : Sent) (calls tail : List Call) → Ready c w k (s .time) bytes b
+      → Follow c b s rest → Prompt (c .lifetime) (s .time) rest → length (bytes ++ joined s rest) ≤ c .upload
       → AllBytes (callOn k s ∷ calls) → OwnRising k (s .time) calls → requestsOn k calls ≡ map (callOn k) rest ++ tail
       → Pushed c w k (lastOf s rest .time) (suc (length rest)) (bytes ++ joined s rest) tail (callOn k s ∷ calls)
 
   from-last : From []
-  from-last w j bytes s calls tail g b pr f ab rise own =
-      let l = block-last c w k x j false s bytes g named (ab .0) b f refl in
+  from-last w b bytes s calls tail g follow pr f ab rise own =
+      let one = follow .0 in
+      let l = block-last c w k b s bytes g named (ab .0) one f (follow .1) in
       record {
         front = callOn k s ∷ [];
         behind = calls;
         is = refl;
         hands = rw (asks-own k s) (l .0);
         many = rw (asks-own k s);
-        slot = here c w k x j false s bytes g named (ab .0) b f;
-        settled = block-held c w k x j false s bytes g named (ab .0) b f;
+        slot = here c w k b s bytes g named (ab .0) one f;
+        settled = block-held c w k b s bytes g named (ab .0) one f;
         empty = l .1;
-        clock = block-clock c w k x j false s bytes g named (ab .0) b f;
+        clock = block-clock c w k b s bytes g named (ab .0) one f;
         rising = rise;
         own = own;
       }
 
   from-more : (t : Sent) (rest : List Sent) → From rest → From (t ∷ rest)
-  from-more t rest on w j bytes s calls tail g b pr f ab rise own =
+  from-more t rest on w b bytes s calls tail g follow pr f ab rise own =
+      let one = follow .0 in
+      let n : BlockValue = follow .2 in
       let p : List ℕ = s .message .payload in
       let asc : bytes ++ p ++ joined t rest ≡ bytes ++ (p ++ joined t rest) = append-assoc bytes p (joined t rest) in
       let long : length (bytes ++ p ++ joined t rest) ≡ length (bytes ++ p) + length (joined t rest) = length-append (bytes ++ p) (joined t rest) in
       let f′ : length (bytes ++ p ++ joined t rest) ≤ c .upload = rw asc f in
       let fit : length (bytes ++ p) ≤ c .upload = omega arith in
-      let i : ℕ = here c w k x j true s bytes g named (ab .0) (b .0) fit in
+      let i : ℕ = here c w k b s bytes g named (ab .0) one fit in
       let v : World = call c w (callOn k s) .world in
-      let m = block-more c w k x j true s bytes g named (ab .0) (b .0) fit refl in
+      let m = block-more c w k b s bytes g named (ab .0) one fit (follow .1) n (follow .3) in
       let z : Cut k calls (callOn k t) (map (callOn k) rest ++ tail) = cut k calls (callOn k t) (map (callOn k) rest ++ tail) own in
       let r = rising-cut k (s .time) (z .before) (callOn k t) (z .behind) (asks-own k t) (subst (OwnRising k (s .time)) (z .is) rise) in
       let ab′ : AllBytes (z .before ++ (callOn k t ∷ z .behind)) = subst AllBytes (z .is) (ab .1) in
       let v′ : World = after call c v (z .before) in
-      let u = held-others c k i (s .time) (t .time) (pr .0) (z .before) v (block-held c w k x j true s bytes g named (ab .0) (b .0) fit)
+      let u = held-others c k i (s .time) (t .time) (pr .0) (z .before) v (block-held c w k b s bytes g named (ab .0) one fit)
       (all-front _ (z .before) (callOn k t ∷ z .behind) ab′) (r .1) (z .none) in
-      let clock : v .table .clock ≡ s .time = block-clock c w k x j true s bytes g named (ab .0) (b .0) fit in
-      let ready : Ready c v′ k x (suc j) (t .time) (bytes ++ p) =
-      ready-next c v′ k x i (suc j) (s .time) (t .time) (bytes ++ p) (u .1) (rw (u .0 .assembled, u .0 .upload) (m .1))
+      let clock : v .table .clock ≡ s .time = block-clock c w k b s bytes g named (ab .0) one fit in
+      let ready : Ready c v′ k (t .time) (bytes ++ p) n =
+      ready-next c v′ k i (s .time) (t .time) (bytes ++ p) n (u .1) (rw (u .0 .assembled, u .0 .upload) (m .1))
       (after-clock c (t .time) (z .before) v (omega (arith, r .0, clock)) (r .1)) (pr .0) in
-      let n = on v′ (suc j) (bytes ++ p) t (z .behind) tail ready (b .1) (pr .1) f′ (all-behind _ (z .before) (callOn k t ∷ z .behind) ab′) (r .2) (z .left) in
-      let n′ = pass c v k (lastOf t rest .time) (suc (length rest)) (bytes ++ p ++ joined t rest) tail (callOn k t ∷ z .behind) (z .before) (z .none) n in
+      let d = on v′ n (bytes ++ p) t (z .behind) tail ready (follow .4) (pr .1) f′ (all-behind _ (z .before) (callOn k t ∷ z .behind) ab′) (r .2) (z .left) in
+      let d′ = pass c v k (lastOf t rest .time) (suc (length rest)) (bytes ++ p ++ joined t rest) tail (callOn k t ∷ z .behind) (z .before) (z .none) d in
       one-more c w k (lastOf t rest .time) (suc (length rest)) (bytes ++ (p ++ joined t rest)) tail calls s (m .0)
-      (subst (λ (l : List Call). Pushed c v k (lastOf t rest .time) (suc (length rest)) (bytes ++ (p ++ joined t rest)) tail l) (sym (z .is)) (rw asc at n′))
+      (subst (λ (l : List Call). Pushed c v k (lastOf t rest .time) (suc (length rest)) (bytes ++ (p ++ joined t rest)) tail l) (sym (z .is)) (rw asc at d′))
 
   pub push-from : (rest : List Sent) → From rest
   push-from [] = from-last
   push-from (t ∷ rest) = from-more t rest (push-from rest)
 
--- ---- what is asked of the blocks, block by block
+-- ---- demand 3's blocks, numbered and of one size
 
-pub each-block : (c : Config) (x : ℕ) (first : Sent) (rest : List Sent) → Blocks c x first rest → Each (OneBlock c x) 0 first rest
+-- what is asked of them, block by block
+pub each-block : (c : Config) (x : ℕ) (first : Sent) (rest : List Sent) → Blocks c x first rest → Each (λ j more r. OneBlock c (block j more x) r) 0 first rest
 each-block c x first rest b = from 0 first rest (omega (arith, b .count)) (b .numbered) (b .full) (b .alone) (b .room)
   where
     from : (j : ℕ) (s : Sent) (rest : List Sent) → j + length rest ≤ 4095 → Each (λ j more r. requestBlock (r .block1) ≡ Given (block j more x)) j s rest
         → Each (λ j more r. Fills more (length (r .payload)) (sizeOf x)) j s rest → Each (λ j more r. requestBlock (r .block2) ≡ Absent) j s rest
-        → Each (λ j more r. r .bare + 12 + sizeOf x ≤ c .limit) j s rest → Each (OneBlock c x) j s rest
+        → Each (λ j more r. r .bare + 12 + sizeOf x ≤ c .limit) j s rest → Each (λ j more r. OneBlock c (block j more x) r) j s rest
     from j s [] h n f a r = record { size = b .size; count = omega arith; numbered = n; full = f; alone = a; room = r }
     from j s (t ∷ rest) h n f a r =
         (record { size = b .size; count = omega arith; numbered = n .0; full = f .0; alone = a .0; room = r .0 }, from (suc j) t rest (omega arith) (n .1) (f .1) (a .1) (r .1))
+
+-- another follows
+abbrev marked : List Sent → Bool
+marked [] = false
+marked (t ∷ rest) = true
+
+-- the first block's value, with these behind it
+abbrev pub firstOf : ℕ → List Sent → BlockValue
+firstOf x rest = block 0 (marked rest) x
+
+-- block j ends at j + 1 times the size, where block j + 1 starts: here alone a count is taken times the size
+follow-on : (c : Config) (x j : ℕ) (s : Sent) (rest : List Sent) → Each (λ j more r. OneBlock c (block j more x) r) j s rest → Follow c (block j (marked rest) x) s rest
+follow-on c x j s [] each = (each, refl)
+follow-on c x j s (t ∷ rest) each =
+    let next : BlockValue = block (suc j) (marked rest) x in
+    let ends : blockStart next ≡ j * sizeOf x + length (s .message .payload) = omega (arith, each .0 .full) in
+    (each .0, refl, next, next-same _ next ends, follow-on c x (suc j) t rest (each .1))
+
+pub blocks-follow : (c : Config) (x : ℕ) (first : Sent) (rest : List Sent) → Blocks c x first rest → Follow c (firstOf x rest) first rest
+blocks-follow c x first rest b = follow-on c x 0 first rest (each-block c x first rest b)
 
 -- and of the last
 pub each-last : (P : ℕ → Bool → Request → Type 0) (j : ℕ) (s : Sent) (rest : List Sent) → Each P j s rest → P (j + length rest) false (lastOf s rest .message)

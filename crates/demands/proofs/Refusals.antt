@@ -1,6 +1,5 @@
 -- THE REFUSALS LEAVE WHAT DOCUMENT 01 SAYS. Assumes nothing.
 use Prim.Native.Nat.{ℕ, _+_, _-_, _*_, _≤_}
-use mathlib.Core.Bool.{false≢true}
 use mathlib.Core.Path.{_≡_, refl, sym, _∙_, ap}
 use mathlib.Core.Logic.{_⊎_, inl, inr, ⊎-elim}
 use mathlib.Core.List.{List}
@@ -14,20 +13,15 @@ use Rattle.splicing.specs.declared.Splice.{Splice}
 use Rattle.splicing.specs.declared.Splice.the-variants as splice
 use Rattle.block_value.specs.Value.{blockStart}
 use Rattle.block_value.specs.declared.BlockValue.{BlockValue}
-use Rattle.negotiation.specs.Negotiation.{negotiated}
 use Rattle.negotiation.specs.Chunk.{chunkOf}
-use Rattle.negotiation.specs.declared.Negotiated.{Negotiated}
-use Rattle.negotiation.specs.declared.Negotiated.the-variants as agreed
 use Rattle.negotiation.specs.declared.Chunk.{Chunk}
 use Rattle.negotiation.specs.declared.Chunk.the-variants as chunk
-use Rattle.block_state.specs.declared.Config.{Config}
+use Rattle.config.specs.declared.Config.{Config}
 use Rattle.block_state.specs.declared.BlockState.{BlockState}
 use Rattle.block_state.specs.declared.Answer.{Answer}
 use Rattle.block_state.specs.declared.Answer.the-variants.{Refused}
 use Rattle.block_state.specs.Message.{Request, Response, What, request, response}
-use Rattle.block_state.specs.State.{recordedBlock}
 use Rattle.block_state.specs.Step.{Left, left}
-use Rattle.response_step.specs.Step.{chunked, onReply, stepResponse}
 use Rattle.block_table.specs.Table.{at}
 use Rattle.block_table.proofs.Row.{at-set-same}
 use Rattle.block_table.proofs.TableFits.{row-length}
@@ -38,10 +32,10 @@ use Rattle.demands.specs.Demand3.{entryAt}
 use Rattle.demands.specs.Touch.{Placed, touched}
 use Rattle.demands.specs.Refusals.{RefusalsLeave}
 use Rattle.demands.proofs.Pairing.{refusal-number}
-use Rattle.demands.proofs.Outcomes.{Storing, as-before, stores, storing, Why, unagreed, badly, astray, unspliced, Outcome}
+use Rattle.demands.proofs.Outcomes.{Unstored, plain, disagreed, beyond, crowded, whole, Storing, as-before, stores, storing}
+use Rattle.demands.proofs.Outcomes.{Why, unagreed, badly, astray, unspliced, Outcome}
 use Rattle.demands.proofs.Outcomes.{refused, past, tooLarge, continued, onwards, serves, none, took, outcome, early-or-placed}
 use Rattle.demands.proofs.Touch.{made, refused-touches, response-touches}
-use Rattle.demands.specs.Pages.{isFirst}
 
 pub never : {A : Type 0} → _≡_ {A = ℕ} 0 1 → A
 never z = absurd (omega arith)
@@ -96,27 +90,18 @@ request-number c home away s u r g o n =
     of-refusal c home away s u r n (λ g. (4 ≤ n) × (n ≤ 10)) (λ m z why. let k = why-number c home away s u r m why in (omega arith, omega arith))
     (λ m z y t v k. (omega arith, omega arith)) g o
 
-response-number : (c : Config) (s : BlockState) (d : List ℕ) (r : Response) (n : ℕ) → Late n (stepResponse c s d r)
-unfolding stepResponse onReply chunked
-response-number c s d r n =
-    on-test (Late n) (r .own) (λ _ e. never (cc))
-    (λ _. replied (negotiated (recordedBlock (s .recorded)) (r .bare) (length (r .payload)) (c .limit)) refl)
-  where
-    cut : (b : BlockValue) (ch : Chunk) → chunkOf b (length (r .payload)) ≡ ch → Late n (chunked c s d (r .head) (r .payload) ch)
-    cut b (chunk.Refused m) is = λ e. let z : m ≡ n = same-number m n e in let y = chunk-number b _ m is in (omega arith, omega arith)
-    cut b (chunk.Bytes y from to) is =
-        on-test (Late n) (y .more)
-        (λ _. on-test (Late n) (ltb (c .response) (length (r .head) + length (r .payload))) (λ _ e. let z : 7 ≡ n = same-number 7 n e in (omega arith, omega arith))
-        (λ _ e. never (cc)))
-        (λ _ e. never (cc))
+unstored-number : (c : Config) (s : BlockState) (d : List ℕ) (r : Response) (a : Answer) → Unstored c s d r a → (n : ℕ) → a ≡ Refused n → (4 ≤ n) × (n ≤ 10)
+unstored-number c s d r a plain n e = never (cc)
+unstored-number c s d r a (disagreed m h) n e =
+    let z : m ≡ n = same-number m n e in
+    ⊎-elim (λ (y : m ≡ 4). (omega arith, omega arith)) (λ (y : m ≡ 5). (omega arith, omega arith)) (refusal-number _ _ _ _ m h)
+unstored-number c s d r a (beyond b m is) n e = let z : m ≡ n = same-number m n e in let y = chunk-number b _ m is in (omega arith, omega arith)
+unstored-number c s d r a crowded n e = let z : 7 ≡ n = same-number 7 n e in (omega arith, omega arith)
+unstored-number c s d r a (whole y from to k) n e = never (cc)
 
-    replied : (g : Negotiated) → negotiated (recordedBlock (s .recorded)) (r .bare) (length (r .payload)) (c .limit) ≡ g
-        → Late n (onReply c s d (r .head) (r .payload) g)
-    replied (agreed.Refused m) is = λ e.
-        let z : m ≡ n = same-number m n e in
-        ⊎-elim (λ (y : m ≡ 4). (omega arith, omega arith)) (λ (y : m ≡ 5). (omega arith, omega arith)) (refusal-number _ _ _ _ m is)
-    replied agreed.NoBlock is = λ e. never (cc)
-    replied (agreed.Block b) is = cut b (chunkOf b (length (r .payload))) refl
+response-number : (c : Config) (s : BlockState) (d : List ℕ) (r : Response) (g : Left) → Storing c s d r g → (n : ℕ) → Late n g
+response-number c s d r g (as-before a k) n e = unstored-number c s d r a k n e
+response-number c s d r g (stores t y from to k same cached room) n e = never (cc)
 
 -- ---- what is left
 
@@ -129,9 +114,9 @@ request-cache : (c : Config) (home away : ℕ) (s : BlockState) (u : List ℕ) (
     → g .state .cached ≡ s .cached
 request-cache c home away s u r n = of-refusal c home away s u r n (λ g. g .state .cached ≡ s .cached) (λ m z why. refl) (λ m z y t v k. k)
 
-response-same : (c : Config) (s : BlockState) (d : List ℕ) (r : Response) (n : ℕ) (g : Left) → Storing c s d (r .head) (r .payload) g → g .answer ≡ Refused n → g ≡ left s d (Refused n)
-response-same c s d r n g (as-before a no-first) e = ap (λ (y : Answer). left s d y) e
-response-same c s d r n g (stores t a first same is room) e = absurd (false≢true (ap isFirst (sym e) ∙ first))
+response-same : (c : Config) (s : BlockState) (d : List ℕ) (r : Response) (n : ℕ) (g : Left) → Storing c s d r g → g .answer ≡ Refused n → g ≡ left s d (Refused n)
+response-same c s d r n g (as-before a k) e = ap (λ (y : Answer). left s d y) e
+response-same c s d r n g (stores t y from to k same cached room) e = never (cc)
 
 module _ (c : Config) (w : World) (q : Call) where
   abbrev i : ℕ
@@ -146,7 +131,7 @@ module _ (c : Config) (w : World) (q : Call) where
   step-number : (x : What) (n : ℕ) → callAt c w (q .time) (rowOf c w q) i (opened (q .key) (rowOf c w q)) x .answer ≡ Refused n → (4 ≤ n) × (n ≤ 10)
   unfolding callAt
   step-number (request r) n = request-number c (i * c .upload) (i * c .response) s u r _ (outcome c (i * c .upload) (i * c .response) s u r) n
-  step-number (response r) n = response-number c s (pieceOf (c .response) i (w .response)) r n
+  step-number (response r) n = response-number c s (pieceOf (c .response) i (w .response)) r _ (storing c s (pieceOf (c .response) i (w .response)) r) n
 
   ten-at-most : (n : ℕ) → call c w q .answer ≡ Refused n → (1 ≤ n) × (n ≤ 10)
   ten-at-most n =

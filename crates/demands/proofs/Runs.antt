@@ -1,22 +1,24 @@
 -- Laws of runs: calls cut in two, calls that are not on a key, and what a run keeps. Assumes nothing.
-use Prim.Native.Nat.{ℕ, _*_, _≤_, max}
+use Prim.Native.Nat.{ℕ, _*_, _≤_, _<_, max}
 use mathlib.Core.Bool.{true}
 use mathlib.Core.Path.{_≡_, refl, ap}
 use mathlib.Core.List.{List, [], _∷_, _++_, map, nil≢cons, cons≢nil, head-eq-of-cons-eq, tail-eq-of-cons-eq}
 use native.Mathlib.Omega.{arith}
-use lib.ListN.{length}
+use lib.ListN.{length, getD-replicate}
 use borrow.Author.Tests.{eqb-true}
 use Rattle.pieces.proofs.Tests.{ands, by-cases}
-use Rattle.block_state.specs.declared.Config.{Config}
+use Rattle.config.specs.declared.Config.{Config}
 use Rattle.block_state.specs.Message.{What, request, response}
 use Rattle.keys.specs.Keys.{same}
 use Rattle.keys.proofs.Keys.{same-refl}
+use Rattle.entries.specs.Entries.{free}
+use Rattle.block_table.specs.Table.{freshTable}
 use Rattle.block_table.proofs.TableFits as fits
 use Rattle.places.specs.Places.{place, opened}
 use Rattle.judge.specs.Limits.{memoriesOk}
 use Rattle.block_handler.specs.Call.{World, Call, callAt, rowOf, call}
 use Rattle.block_handler.proofs.Frame.{WorldFits, call-fits, call-cases}
-use Rattle.demands.specs.Demand3.{Handler, run, after, callsOn, seenOn, Sent, callOn, All, AllBytes, Rising, Fresh}
+use Rattle.demands.specs.Demand3.{Handler, run, after, callsOn, seenOn, Sent, callOn, All, AllBytes, Rising, Fresh, entryAt}
 use Rattle.demands.specs.Clocks.{asks, requestsOn, runOn, OwnRising}
 
 -- ---- calls cut in two
@@ -111,6 +113,9 @@ own-seen h c k (q ∷ calls) w o =
     by-cases (same k (q .key)) (λ y. rw (o .0, y, rest)) (λ n. rw (o .0, n, rest))
 
 -- ---- what a run of calls starts from, and keeps
+
+pub fresh-entry : (w : World) → w .table ≡ freshTable → (i : ℕ) → i < 16 → entryAt w i ≡ free
+fresh-entry w fresh i b = rw fresh (getD-replicate 16 i free free b)
 
 pub fresh-fits : (c : Config) (w : World) → Fresh c w → WorldFits c w
 unfolding memoriesOk

@@ -1,18 +1,19 @@
 -- What demand 3 asks for can be given, and the four shams break it. Assumes nothing.
-use Prim.Native.Nat.{ℕ, zero, suc, _+_, _-_, _<_}
+use Prim.Native.Nat.{ℕ, zero, suc, _+_, _-_, _≤_, _<_}
 use mathlib.Core.Bool.{Bool, true, false, _&&_}
 use mathlib.Core.Path.{_≡_, refl, sym, _∙_, ap}
 use mathlib.Core.Logic.{inl, inr}
-use mathlib.Core.List.{List, [], _∷_}
+use mathlib.Core.List.{List, [], _∷_, _++_}
 use native.Mathlib.Omega.{arith}
 use lib.ListN.{length, getD, take, drop, replicate, getD-replicate, List·getD-eq-default, length-take}
 use lib.Seq.{getD-drop, getD-take}
 use lib.Dec.{leb, ltb}
 use borrow.Author.Tests.{ltb-true, ltb-false}
 use Rattle.pieces.specs.Memory as memory
-use Rattle.pieces.proofs.Tests.{by-cases, on-test, clash-of}
+use Rattle.pieces.proofs.Tests.{by-cases, on-test}
 use Rattle.negotiation.specs.Negotiation.{requestBlock}
 use Rattle.negotiation.specs.declared.MaybeBlock.the-variants.{Given}
+use Rattle.config.specs.declared.Config.{Config}
 use Rattle.block_state.specs.declared.Part.{Part}
 use Rattle.block_state.specs.declared.Answer.{Answer}
 use Rattle.block_state.specs.declared.Answer.the-variants.{Continue, TooLarge, Handed, Pass, Served, Plain, Whole, First, Refused}
@@ -21,66 +22,81 @@ use Rattle.keys.specs.Keys as keys
 use Rattle.entries.specs.declared.Entry.{Entry}
 use Rattle.entries.specs.Entries.{free, live}
 use Rattle.answers.specs.Parts.{partOf, bodyOf}
-use Rattle.demands.specs.Demand3.{Handler, Sent, HasFree, HasLive, NothingInPlain, Granted, Demand3, callOn, block, entryAt}
+use Rattle.block_table.specs.Table.{freshTable}
+use Rattle.block_handler.specs.Call.{World}
+use Rattle.demands.specs.Demand3.{Handler, Sent, HasFree, HasLive, NothingInPlain, Blocks, Granted, Demand3, callOn, block, entryAt}
 use Rattle.demands.specs.Shams.{config, fresh, key, sent, firstBlock, lastBlock, later, wide, used, wideFirst, wideSecond, wideLast, CanBeGiven, Excluded, Exist}
 use Rattle.demands.proofs.Computes.{values, limits, calls}
+use Rattle.demands.proofs.Runs.{fresh-entry}
 
 -- ---- what is given can be given
 
-has-free : (strict : Bool) → HasFree (config strict) fresh 5
+-- a fresh table has a free entry, and nothing assembled for any key
+pub fresh-free : (c : Config) (w : World) (time : ℕ) → w .table ≡ freshTable → HasFree c w time
 unfolding live
-has-free strict = (0, omega arith, refl)
+fresh-free c w time fresh = (0, omega arith, rw (fresh-entry w fresh 0 (omega arith)))
 
-none-live : (strict : Bool) → NothingInPlain (config strict) fresh 5 key
-unfolding live
-none-live strict plain i b h y =
-    absurd (clash-of false (sym (ap (λ e. live 100 5 e) (getD-replicate 16 i free free b)) ∙ y) refl)
+pub fresh-nothing : (c : Config) (w : World) (time : ℕ) (k : List ℕ) → w .table ≡ freshTable → NothingInPlain c w time k
+fresh-nothing c w time k fresh plain i b h y = rw (fresh-entry w fresh i b)
+
+-- a block alone, and two blocks, of at most 16 bytes
+module _ (c : Config) (room : 48 ≤ c .limit) where
+  pub one-block : (time : ℕ) (p : List ℕ) → length p ≤ 16 → length p ≤ c .upload → Blocks c 0 (sent time [] p) []
+  unfolding values
+  one-block time p short fits =
+      record {
+        count = omega arith;
+        numbered = refl;
+        size = omega arith;
+        full = short;
+        alone = refl;
+        room = room;
+        fits = fits;
+        prompt = tt;
+      }
+
+  pub two-blocks : (time next : ℕ) (p q : List ℕ) → length p ≡ 16 → length q ≤ 16 → length (p ++ q) ≤ c .upload → next < time + c .lifetime
+      → Blocks c 0 (sent time (0x08 ∷ []) p) (sent next (0x10 ∷ []) q ∷ [])
+  unfolding values
+  two-blocks time next p q full short fits soon =
+      record {
+        count = omega arith;
+        numbered = (refl, refl);
+        size = omega arith;
+        full = (full, short);
+        alone = (refl, refl);
+        room = (room, room);
+        fits = fits;
+        prompt = (soon, tt);
+      }
 
 given-one : (strict : Bool) → Granted (config strict) fresh key 0 (sent 5 [] (7 ∷ [])) [] []
-unfolding values limits
+unfolding limits
 given-one strict =
     record {
-      entry = inr (has-free strict);
-      nothing = none-live strict;
+      entry = inr (fresh-free (config strict) fresh 5 refl);
+      nothing = fresh-nothing (config strict) fresh 5 key refl;
       push = record {
         limits = refl;
         sixteen = refl;
         bytes = ((tt, tt), tt);
-        blocks = record {
-          count = omega arith;
-          numbered = refl;
-          size = omega arith;
-          full = omega arith;
-          alone = refl;
-          room = omega arith;
-          fits = omega arith;
-          prompt = tt;
-        };
+        blocks = one-block (config strict) (omega arith) 5 (7 ∷ []) (omega arith) (omega arith);
       };
       own = refl;
       clock = (omega arith, tt);
     }
 
 given-two : (strict : Bool) → Granted (config strict) fresh key 0 firstBlock (lastBlock ∷ []) later
-unfolding values limits
+unfolding limits
 given-two strict =
     record {
-      entry = inr (has-free strict);
-      nothing = none-live strict;
+      entry = inr (fresh-free (config strict) fresh 5 refl);
+      nothing = fresh-nothing (config strict) fresh 5 key refl;
       push = record {
         limits = refl;
         sixteen = refl;
         bytes = (((omega arith, tt), tt), (((omega arith, tt), tt), (((omega arith, tt), tt), (tt, (((omega arith, tt), tt), (((omega arith, tt), tt), tt))))));
-        blocks = record {
-          count = omega arith;
-          numbered = (refl, refl);
-          size = omega arith;
-          full = (refl, omega arith);
-          alone = (refl, refl);
-          room = (omega arith, omega arith);
-          fits = omega arith;
-          prompt = (omega arith, tt);
-        };
+        blocks = two-blocks (config strict) (omega arith) 5 9 (replicate 16 65) (66 ∷ 67 ∷ []) refl (omega arith) (omega arith) (omega arith);
       };
       own = refl;
       clock = (omega arith, (omega arith, (omega arith, (omega arith, (omega arith, (omega arith, tt))))));

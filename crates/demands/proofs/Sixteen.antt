@@ -9,7 +9,7 @@ use lib.ListN.{length, List·getD-eq-default}
 use lib.Dec.{ltb}
 use borrow.Author.Tests.{ltb-true, ltb-false, not-false}
 use Rattle.pieces.proofs.Tests.{by-cases, on-test, clash-of, refute}
-use Rattle.block_state.specs.declared.Config.{Config}
+use Rattle.config.specs.declared.Config.{Config}
 use Rattle.block_state.specs.declared.BlockState.{BlockState}
 use Rattle.block_state.specs.Message.{What, request, response}
 use Rattle.keys.specs.Lists.{find}

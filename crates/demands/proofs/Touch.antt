@@ -7,7 +7,7 @@ use lib.ListN.{length}
 use Rattle.pieces.specs.Memory.{pieceOf, putPiece}
 use Rattle.pieces.proofs.Memory.{piece-order, patch-self}
 use Rattle.pieces.proofs.Tests.{ands}
-use Rattle.block_state.specs.declared.Config.{Config}
+use Rattle.config.specs.declared.Config.{Config}
 use Rattle.block_state.specs.declared.BlockState.{BlockState}
 use Rattle.block_state.specs.declared.Answer.the-variants.{Refused}
 use Rattle.block_state.specs.Message.{Request, Response, request, response}

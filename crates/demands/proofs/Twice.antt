@@ -1,31 +1,28 @@
 -- THE LAST BLOCK SENT TWICE, in both modes. Assumes nothing.
-use Prim.Native.Nat.{ℕ, zero, suc, _+_, _-_, _*_, _≤_, _<_}
-use mathlib.Core.Bool.{true, false, _&&_}
+use Prim.Native.Nat.{ℕ, suc, _+_, _-_, _*_, _≤_, _<_}
+use mathlib.Core.Bool.{true, false}
 use mathlib.Core.Path.{_≡_, refl, sym, _∙_, ap, subst}
 use mathlib.Core.List.{List, [], _∷_, _++_, map, append-nil}
 use native.Mathlib.Nat.{zero-add}
 use native.Mathlib.Omega.{arith}
 use lib.ListN.{length, take, replicate, length-append, length-replicate, drop-of-length-le}
 use lib.Seq.{take-all}
-use lib.Dec.{eqb}
-use borrow.Author.Tests.{ne-eqb}
 use Rattle.pieces.specs.Memory.{patch, pieceOf}
 use Rattle.pieces.proofs.Memory.{piece-order}
-use Rattle.splicing.specs.Splice.{spliced, splicedLength, spliceOf, pieceAfter}
+use Rattle.pieces.proofs.Tests.{clash-of}
+use Rattle.splicing.specs.Splice.{spliced, splicedLength, pieceAfter}
 use Rattle.splicing.specs.declared.Splice.the-variants.{Body}
 use Rattle.splicing.proofs.Splicing as splicing
-use Rattle.block_value.specs.Value.{sizeOf}
-use Rattle.block_value.proofs.Laws.{size-least}
-use Rattle.negotiation.specs.declared.MaybeBlock.the-variants.{Absent, Given}
-use Rattle.block_state.specs.declared.Config.{Config}
+use Rattle.block_value.specs.Value.{sizeOf, blockSize, blockStart}
+use Rattle.block_value.specs.declared.BlockValue.{BlockValue}
+use Rattle.negotiation.specs.declared.MaybeBlock.the-variants.{Absent}
+use Rattle.config.specs.declared.Config.{Config}
 use Rattle.block_state.specs.declared.BlockState.{BlockState}
 use Rattle.block_state.specs.declared.Answer.the-variants.{Handed, Refused}
 use Rattle.block_state.specs.Message.{Request, request, WhatBytes}
 use Rattle.block_state.specs.State.{assembly, withAssembled, withRecorded}
 use Rattle.block_state.specs.Step.{left, bytesFrom}
-use Rattle.request_block1.specs.Block1.{notNext, lengthMet, onSplice}
-use Rattle.request_block1.proofs.Steps.{taken-last, spliced-body, spliced-refused, given-next, given-not-next}
-use Rattle.request_block2.proofs.Steps.{onward-absent}
+use Rattle.request_step.specs.Block1.{notNext, lengthMet}
 use Rattle.request_step.specs.Step.{stepRequest}
 use Rattle.keys.specs.Keys.{keyOk}
 use Rattle.entries.specs.declared.Entry.{Entry}
@@ -37,7 +34,9 @@ use Rattle.demands.specs.Demand3.{after, Sent, callOn, block, Each, Fill
 use Rattle.demands.specs.Clocks.{requestsOn}
 use Rattle.demands.specs.Touch.{Placed, RefusesTo, HandsTo}
 use Rattle.demands.specs.Twice.{lastOf, SentAgain, Twice}
-use Rattle.demands.proofs.OwnStep.{OneBlock, form-ok, agrees, held-after, own-last, meets-first}
+use Rattle.demands.proofs.Checks.{misplaced-is, starts-first, meets-all}
+use Rattle.demands.proofs.Step.{step-astray, step-unspliced, step-last}
+use Rattle.demands.proofs.OwnStep.{unmarked, OneBlock, form-ok, agreed, meets-first, held-after, own-last}
 use Rattle.demands.proofs.Runs.{asks-own, all-behind, after-cut, cut, after-clock}
 use Rattle.demands.proofs.Held.{Held, held-place, held-opened, held-others}
 use Rattle.demands.proofs.Push.{message-ok, shown-part, Pushed, each-block, each-last}
@@ -46,63 +45,45 @@ use Rattle.demands.proofs.Touch.{refused-touches}
 
 -- ---- the step of the last block on an entry with nothing assembled
 
-module _ (c : Config) (home at : ℕ) (s : BlockState) (u : List ℕ) (r : Request) (x j : ℕ) (b : OneBlock c x j false r) (none : s .assembled ≡ assembly 0 0) where
-  abbrev a : ℕ
-  a = j * sizeOf x
+module _ (c : Config) (home away : ℕ) (s : BlockState) (u : List ℕ) (r : Request) (b : BlockValue) (one : OneBlock c b r) (none : s .assembled ≡ assembly 0 0) where
+  abbrev start : ℕ
+  start = blockStart b
 
   abbrev p : ℕ
   p = length (r .payload)
 
   -- strict, not block 0: it is not the next
-  again-strict : c .strict ≡ true → 1 ≤ j → stepRequest c home at s u r ≡ left s u (Refused 9)
-  unfolding notNext
-  again-strict strict h =
-      let num : eqb j 0 ≡ false = ne-eqb j 0 (λ e. omega arith) in
-      let start : eqb a 0 ≡ false = ne-eqb a 0 (λ e. positive j h e) in
-      let away : (c .strict && notNext (s .assembled) (block j false x)) ≡ true = rw (strict, none, num, start) in
-      agrees c home at s u r x j false b
-      ∙ given-not-next c home at s u Absent (r .payload) (block j false x) (block j false x) (form-ok c r x j false b) away
-    where
-      positive : (j : ℕ) → 1 ≤ j → j * sizeOf x ≡ 0 → ⊥
-      positive (suc n) h e = omega (arith, size-least x)
-      positive zero h e = omega arith
+  again-strict : c .strict ≡ true → (b .num ≡ 0 → ⊥) → stepRequest c home away s u r ≡ left s u (Refused 9)
+  again-strict strict other =
+      let astray : notNext (s .assembled) b ≡ true = rw none (misplaced-is (assembly 0 0) b (other, λ n. other (starts-first b (n .0)))) in
+      step-astray c home away s u r b (unmarked b) (one .numbered) (agreed c b r one) (form-ok c b r one) (rw (strict, astray))
 
   module _ (plain : c .strict ≡ false) where
-    spliced-here : stepRequest c home at s u r
-        ≡ onSplice home at s u Absent (r .payload) (block j false x) (block j false x) 0 (spliceOf (c .upload) 0 a (sizeOf x) p)
-    unfolding lengthMet
-    spliced-here =
-        agrees c home at s u r x j false b
-        ∙ given-next c home at s u Absent (r .payload) (block j false x) (block j false x) (rw plain) (rw plain) 0 (met plain)
-      where
-        met : c .strict ≡ false → 0 ≡ lengthMet (c .strict) (s .assembled) (block j false x)
-        met e = rw (e, none)
+    met : lengthMet (c .strict) (s .assembled) b ≡ 0
+    met = meets-all (c .strict) (s .assembled) b (λ strict. absurd (clash-of (c .strict) strict plain)) ∙ rw none
 
-    again-far : 16384 < a + sizeOf x → stepRequest c home at s u r ≡ left s u (Refused 6)
-    again-far h =
-        spliced-here
-        ∙ spliced-refused home at s u Absent (r .payload) (block j false x) (block j false x) 0 _ 6 (splicing.too-far (c .upload) 0 a (sizeOf x) p (omega arith))
+    again-far : 16384 < start + blockSize b → stepRequest c home away s u r ≡ left s u (Refused 6)
+    again-far far =
+        step-unspliced c home away s u r b (unmarked b) (one .numbered) (agreed c b r one) (form-ok c b r one) (rw plain) 0 met 6
+        (splicing.too-far (c .upload) 0 start (blockSize b) p (omega arith))
 
     abbrev zeros : List ℕ
-    zeros = replicate a 0 ++ r .payload
+    zeros = replicate start 0 ++ r .payload
 
-    with-zeros : pieceAfter u 0 a (sizeOf x) (r .payload) ≡ patch u 0 zeros
+    with-zeros : pieceAfter u 0 start (blockSize b) (r .payload) ≡ patch u 0 zeros
     unfolding pieceAfter spliced
     with-zeros =
-        let z : a - length {A = ℕ} (take 0 u) ≡ a = omega arith in
-        rw (z, take-all a (take 0 u) (omega arith), drop-of-length-le (take 0 u) {i = a + sizeOf x} (omega arith), append-nil zeros)
+        let z : start - length {A = ℕ} (take 0 u) ≡ start = omega arith in
+        rw (z, take-all start (take 0 u) (omega arith), drop-of-length-le (take 0 u) {i = start + blockSize b} (omega arith), append-nil zeros)
 
-    again-zeros : a + sizeOf x ≤ 16384 → a + p ≤ c .upload
-        → stepRequest c home at s u r
-        ≡ left (withRecorded (withAssembled s (assembly 0 0)) Absent) (patch u 0 zeros) (Handed (block j false x) (bytesFrom home (length zeros)))
-    again-zeros h f =
-        let n : splicedLength 0 a (sizeOf x) p ≡ length zeros = rw (length-append (replicate a 0) (r .payload), length-replicate {A = ℕ} a 0) (omega arith) in
-        spliced-here
-        ∙ spliced-body home at s u Absent (r .payload) (block j false x) (block j false x) 0 _ (length zeros)
-        (splicing.taken (c .upload) 0 a (sizeOf x) p (omega arith) (omega arith) ∙ ap Body n)
-        ∙ rw with-zeros
-        (taken-last home at s (patch u 0 zeros) Absent (block j false x) (block j false x) (length zeros) refl
-        ∙ onward-absent at (withAssembled s (assembly 0 0)) _ Absent (Given (block j false x)) (Handed (block j false x) (bytesFrom home (length zeros))) refl)
+    again-zeros : b .more ≡ false → start + blockSize b ≤ 16384 → start + p ≤ c .upload
+        → stepRequest c home away s u r
+        ≡ left (withRecorded (withAssembled s (assembly 0 0)) Absent) (patch u 0 zeros) (Handed (unmarked b) (bytesFrom home (length zeros)))
+    again-zeros last near fits =
+        let n : splicedLength 0 start (blockSize b) p ≡ length zeros =
+        rw (length-append (replicate start 0) (r .payload), length-replicate {A = ℕ} start 0) (omega arith) in
+        step-last c home away s u r b (unmarked b) (one .numbered) (agreed c b r one) (form-ok c b r one) (rw plain) 0 met (length zeros) (patch u 0 zeros)
+        (splicing.taken (c .upload) 0 start (blockSize b) p (omega arith) (omega arith) ∙ ap Body n) with-zeros last (one .alone)
 
 -- ---- the call that brings it again
 
@@ -176,52 +157,63 @@ module _ (c : Config) (w : World) (k : List ℕ) (x : ℕ) (first : Sent) (rest 
   none : from .assembled ≡ assembly 0 0
   none = ap (λ (e : Entry). e .state .assembled) (held-opened c then k (ended .slot) (last .time) (settled .0) (again .time) (a .soon)) ∙ settled .1
 
-  b : OneBlock c x j false (again .message)
-  b =
-      let z : 0 + length rest ≡ length rest = zero-add (length rest) in
-      rw (a .same) (rw z at (each-last (OneBlock c x) 0 first rest (each-block c x first rest (a .granted .push .blocks))))
+  abbrev b : BlockValue
+  b = block j false x
 
-  bytes : WhatBytes (request (again .message))
-  bytes = rw (a .same) (last-bytes k first rest later (a .granted .own) (a .granted .push .bytes))
+  one : OneBlock c b (again .message)
+  one =
+      let z : 0 + length rest ≡ length rest = zero-add (length rest) in
+      rw (a .same) (rw z at (each-last (λ j more r. OneBlock c (block j more x) r) 0 first rest (each-block c x first rest (a .granted .push .blocks))))
+
+  options : WhatBytes (request (again .message))
+  options = rw (a .same) (last-bytes k first rest later (a .granted .own) (a .granted .push .bytes))
 
   body-fits : j * sizeOf x + length (again .message .payload) ≤ c .upload
   body-fits = rw (a .same) (omega (arith, joined-length x 0 first rest (a .granted .push .blocks .full), a .granted .push .blocks .fits))
 
   ok : whatOk (request (again .message)) ≡ true
-  ok = message-ok c (again .message) x j false (fits .config) b
+  ok = message-ok c (again .message) b (fits .config) one
 
-  refuses : (n : ℕ) → stepRequest c (here * c .upload) (here * c .response) from piece (again .message) ≡ left from piece (Refused n)
+  abbrev home : ℕ
+  home = here * c .upload
+
+  abbrev away : ℕ
+  away = here * c .response
+
+  refuses : (n : ℕ) → stepRequest c home away from piece (again .message) ≡ left from piece (Refused n)
       → RefusesTo n call c then q
   refuses n step =
       let placed : Placed c then q = record { limits = fits-limits c then q fits named ok; sixteen = fits .sixteen; clock = in-time; place = in-place } in
       refused-touches c then q placed (again .message) refl n step
 
   -- a step that puts a body at the start of its piece and names it shows it
-  hands : (b : List ℕ) (y : BlockState) → length b ≤ c .upload
-      → stepRequest c (here * c .upload) (here * c .response) from piece (again .message)
-      ≡ left y (patch piece 0 b) (Handed (block j false x) (bytesFrom (here * c .upload) (length b)))
-      → HandsTo b call c then q
-  hands b y fit step =
-      let t = rw step at (request-took c then q fits named in-time in-place (again .message) refl bytes ok) in
+  hands : (bytes : List ℕ) (y : BlockState) → length bytes ≤ c .upload
+      → stepRequest c home away from piece (again .message) ≡ left y (patch piece 0 bytes) (Handed b (bytesFrom home (length bytes)))
+      → HandsTo bytes call c then q
+  hands bytes y fit step =
+      let t = rw step at (request-took c then q fits named in-time in-place (again .message) refl options ok) in
       let v : World = call c then q .world in
-      let f = call-fits c then q bytes fits in
-      let in-upload : here * c .upload + c .upload ≤ length (v .upload) = omega (arith, f .upload, piece-order here 16 (c .upload) in-place) in (
+      let f = call-fits c then q options fits in
+      let in-upload : home + c .upload ≤ length (v .upload) = omega (arith, f .upload, piece-order here 16 (c .upload) in-place) in (
         rw (t .answer),
-        rw (t .answer) (shown-part (v .upload) (c .upload) here (length b) in-upload fit ∙ ap (take (length b)) (t .piece) ∙ held-after piece b),
+        rw (t .answer) (shown-part (v .upload) (c .upload) here (length bytes) in-upload fit ∙ ap (take (length bytes)) (t .piece) ∙ held-after piece bytes),
       )
 
+  -- what the entry is left with
+  abbrev handed : BlockState
+  handed = withRecorded (withAssembled from (assembly 0 0)) Absent
+
   refused-strict : c .strict ≡ true → 1 ≤ j → RefusesTo 9 call c then q
-  refused-strict strict h = refuses 9 (again-strict c (here * c .upload) (here * c .response) from piece (again .message) x j b none strict h)
+  refused-strict strict h = refuses 9 (again-strict c home away from piece (again .message) b one none strict (λ e. omega arith))
 
   handed-one : j ≡ 0 → HandsTo (again .message .payload) call c then q
-  handed-one e =
-      hands (again .message .payload) (withRecorded (withAssembled from (assembly 0 0)) Absent) (omega (arith, body-fits))
-      (rw e
-      (own-last c (here * c .upload) (here * c .response) from piece (again .message) x 0 false (rw e at b) []
-      (meets-first c (from .assembled) piece x (λ plain. rw none)) (omega (arith, body-fits)) refl))
+  handed-one first =
+      let meets = meets-first c (from .assembled) piece b first (λ plain. rw none) in
+      hands (again .message .payload) handed (omega (arith, body-fits))
+      (own-last c home away from piece (again .message) b one [] meets (omega (arith, body-fits)) refl)
 
   refused-far : c .strict ≡ false → 16384 < length (first ∷ rest) * sizeOf x → RefusesTo 6 call c then q
-  refused-far plain h = refuses 6 (again-far c (here * c .upload) (here * c .response) from piece (again .message) x j b none plain (omega arith))
+  refused-far plain h = refuses 6 (again-far c home away from piece (again .message) b one none plain (omega arith))
 
   handed-zeros : c .strict ≡ false → length (first ∷ rest) * sizeOf x ≤ 16384 → HandsTo (replicate (j * sizeOf x) 0 ++ last .message .payload) call c then q
   handed-zeros plain h =
@@ -229,8 +221,7 @@ module _ (c : Config) (w : World) (k : List ℕ) (x : ℕ) (first : Sent) (rest 
       let n : length body ≡ j * sizeOf x + length (again .message .payload) =
       length-append (replicate (j * sizeOf x) 0) (again .message .payload) ∙ rw (length-replicate {A = ℕ} (j * sizeOf x) 0) in
       rw (← (a .same))
-      (hands body (withRecorded (withAssembled from (assembly 0 0)) Absent) (omega (arith, body-fits))
-      (again-zeros c (here * c .upload) (here * c .response) from piece (again .message) x j b none plain (omega arith) body-fits))
+      (hands body handed (omega (arith, body-fits)) (again-zeros c home away from piece (again .message) b one none plain refl (omega arith) body-fits))
 
 -- THE LAST BLOCK SENT TWICE
 pub twice : Twice call

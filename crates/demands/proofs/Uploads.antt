@@ -1,26 +1,24 @@
 -- IN STRICT MODE, WHAT IS HANDED ON IS WHAT WAS TAKEN. Assumes nothing.
-use Prim.Native.Nat.{ℕ, suc, zero, _+_, _-_, _*_, _≤_, _<_}
-use mathlib.Core.Bool.{true, false, cond, _&&_}
+use Prim.Native.Nat.{ℕ, _+_, _-_, _*_, _≤_, _<_}
+use mathlib.Core.Bool.{true, cond}
 use mathlib.Core.Path.{_≡_, refl, sym, _∙_, ap, subst}
 use mathlib.Core.Logic.{_⊎_, inl, inr, ⊎-elim}
 use mathlib.Core.List.{List, [], _∷_, _++_}
 use native.Mathlib.Omega.{arith}
-use lib.ListN.{length, set, take, length-append, getD-replicate}
+use lib.ListN.{length, set, take}
 use lib.Seq.{length-take-le}
 use lib.Dec.{ltb, eqb}
-use borrow.Author.Tests.{not-false, ltb-false, leb-true, eqb-true, eq-eqb}
+use borrow.Author.Tests.{ltb-false, leb-true, eqb-true, eq-eqb}
 use Rattle.pieces.specs.Memory.{pieceOf, putPiece}
 use Rattle.pieces.proofs.Memory.{piece-order, length-piece, length-put, piece-put-same, piece-put-other}
-use Rattle.pieces.proofs.Tests.{ands, and-left, by-cases, on-test, clash-of}
-use Rattle.splicing.specs.Splice.{spliced, splicedLength, spliceOf, pieceAfter}
+use Rattle.pieces.proofs.Tests.{ands, by-cases, on-test, clash-of}
+use Rattle.splicing.specs.Splice.{splicedLength, spliceOf}
 use Rattle.splicing.specs.declared.Splice.{Splice}
 use Rattle.splicing.specs.declared.Splice.the-variants as splice
-use Rattle.splicing.proofs.Splicing.{spliced-next}
 use Rattle.block_value.specs.Value.{blockSize, blockStart}
 use Rattle.block_value.specs.declared.BlockValue.{BlockValue}
-use Rattle.block_value.proofs.Laws.{size-least}
 use Rattle.negotiation.specs.declared.MaybeBlock.the-variants.{Given}
-use Rattle.block_state.specs.declared.Config.{Config}
+use Rattle.config.specs.declared.Config.{Config}
 use Rattle.block_state.specs.declared.Assembled.{Assembled}
 use Rattle.block_state.specs.declared.BlockState.{BlockState}
 use Rattle.block_state.specs.declared.Part.{Part}
@@ -30,13 +28,13 @@ use Rattle.block_state.specs.Message.{Request, What, request, response, OptionB
 use Rattle.block_state.specs.State.{assembledOk}
 use Rattle.block_state.proofs.Fits.{StateFits}
 use Rattle.block_state.specs.Step.{Left, bytesFrom}
-use Rattle.request_block1.specs.Block1.{notNext, lengthMet}
+use Rattle.request_step.specs.Block1.{lengthMet}
 use Rattle.request_step.specs.Step.{stepRequest}
 use Rattle.request_step.proofs.StepKeeps.{request-keeps}
 use Rattle.keys.specs.Keys.{same}
 use Rattle.keys.proofs.Keys.{same-eq, same-refl}
 use Rattle.entries.specs.declared.Entry.{Entry}
-use Rattle.entries.specs.Entries.{free, inUse, holds, live, swept}
+use Rattle.entries.specs.Entries.{inUse, holds, live, swept}
 use Rattle.entries.proofs.Entries.{holds-new}
 use Rattle.block_table.specs.Table.{at}
 use Rattle.block_table.proofs.Row.{at-sweep, at-set}
@@ -49,11 +47,12 @@ use Rattle.block_handler.proofs.Frame.{WorldFits, key-within, call-fits}
 use Rattle.demands.specs.Demand3.{Handler, payloadOf, after, AllBytes, entryAt}
 use Rattle.demands.specs.Uploads.{joinedBy, takenBy, takenOn, allTaken, HandsWhatWasTaken}
 use Rattle.answers.specs.Parts.{partOf, bodyOf}
-use Rattle.demands.proofs.Runs.{all-front, all-behind, fresh-fits, after-fits}
+use Rattle.demands.proofs.Runs.{all-front, all-behind, fresh-entry, fresh-fits, after-fits}
 use Rattle.demands.proofs.Push.{shown-part}
-use Rattle.demands.proofs.OwnStep.{held-after}
+use Rattle.demands.proofs.Checks.{passed-next, first-starts, starts-first, meets-all, meets-afresh}
+use Rattle.demands.proofs.OwnStep.{held-after, appended, appended-length}
 use Rattle.demands.proofs.Outcomes.{TookBlock, spliced-by, none, took, Outcome, refused, past, tooLarge}
-use Rattle.demands.proofs.Outcomes.{continued, onwards, serves, outcome, storing, storing-assembled, early-or-placed, cond-same}
+use Rattle.demands.proofs.Outcomes.{continued, onwards, serves, outcome, storing-assembled, early-or-placed, cond-same}
 
 -- ---- a block that was taken, in strict mode
 
@@ -77,57 +76,33 @@ module _ (c : Config) (strict : c .strict ≡ true) (home away : ℕ) (s : Block
   p = length (r .payload)
 
   -- from l assembled bytes, a block that starts there leaves them and its payload
-  appended : (b : BlockValue) (l n : ℕ) → lengthMet (c .strict) (s .assembled) b ≡ l → blockStart b ≡ l → l ≤ length u
+  goes-behind : (b : BlockValue) (l n : ℕ) → lengthMet (c .strict) (s .assembled) b ≡ l → blockStart b ≡ l → l ≤ length u
       → spliceOf (c .upload) (lengthMet (c .strict) (s .assembled) b) (blockStart b) (blockSize b) p ≡ splice.Body n
       → take n (spliced-by c home away s u r b) ≡ take l u ++ r .payload
-  unfolding pieceAfter
-  appended b l n m start h e =
+  goes-behind b l n m start h e =
       let bytes : List ℕ = take l u in
       let long : length bytes ≡ l = length-take-le l u h in
-      let size : n ≡ length (bytes ++ r .payload) = (body-length _ _ _ _ _ n e .0) ∙ rw (m, start, length-append bytes (r .payload), long) (omega arith) in
-      let piece : spliced bytes l (blockSize b) (r .payload) ≡ bytes ++ r .payload =
-      subst (λ (x : ℕ). spliced bytes x (blockSize b) (r .payload) ≡ bytes ++ r .payload) long (spliced-next bytes (blockSize b) (r .payload)) in
-      rw (m, start, piece, size) (held-after u (bytes ++ r .payload))
-
-  module _ (b : BlockValue) where
-    met-zero : eqb (b .num) 0 ≡ true → lengthMet (c .strict) (s .assembled) b ≡ 0
-    unfolding lengthMet
-    met-zero y = rw (strict, y)
-
-    met-other : eqb (b .num) 0 ≡ false → lengthMet (c .strict) (s .assembled) b ≡ s .assembled .len
-    unfolding lengthMet
-    met-other o = rw (strict, o)
-
-    starts : eqb (b .num) 0 ≡ false → (c .strict && notNext (s .assembled) b) ≡ false → blockStart b ≡ s .assembled .len
-    unfolding notNext
-    starts o next =
-        let both = not-false (eqb (blockStart b) (s .assembled .len) && eqb (b .«size_exponent») (s .assembled .exponent)) (rw (strict, o) at next) in
-        eqb-true (blockStart b) (s .assembled .len) (and-left _ _ both)
-
-    joined-zero : eqb (b .num) 0 ≡ true → joinedBy (Given b) old (r .payload) ≡ r .payload
-    joined-zero y = rw y
-
-    joined-other : eqb (b .num) 0 ≡ false → joinedBy (Given b) old (r .payload) ≡ old ++ r .payload
-    joined-other o = rw o
+      let met : lengthMet (c .strict) (s .assembled) b ≡ length bytes = m ∙ sym long in
+      let starts : blockStart b ≡ length bytes = start ∙ sym long in
+      let size : n ≡ length (bytes ++ r .payload) = (body-length _ _ _ _ _ n e .0) ∙ rw (met, starts) (appended-length bytes (blockSize b) (r .payload)) in
+      let piece = appended u bytes (blockSize b) (r .payload) (ap (λ (i : ℕ). take i u) long) in
+      rw (met, starts, piece, size) (held-after u (bytes ++ r .payload))
 
   -- block 0 leaves its payload; any other starts at the assembled length, and leaves the old bytes and its payload
   grown : (b reply : BlockValue) (n : ℕ) → TookBlock c home away s u r b reply n → take n (spliced-by c home away s u r b) ≡ joinedBy (Given b) old (r .payload)
   grown b reply n k =
       by-cases (eqb (b .num) 0)
       (λ y.
-      let zero : b .num ≡ 0 = eqb-true (b .num) 0 y in
-      let start : blockStart b ≡ 0 = rw zero (omega arith) in
-      appended b 0 n (met-zero b y) start (omega arith) (k .body) ∙ sym (joined-zero b y))
+      let first : b .num ≡ 0 = eqb-true (b .num) 0 y in
+      let met = meets-afresh (c .strict) (s .assembled) b first (λ plain. absurd (clash-of (c .strict) strict plain)) in
+      rw y (goes-behind b 0 n met (first-starts b first) (omega arith) (k .body)))
       (λ o.
-      let num : b .num ≡ 0 → ⊥ = λ e. clash-of (eqb (b .num) 0) (eq-eqb (b .num) 0 e) o in
-      let start : blockStart b ≡ s .assembled .len = starts b o (k .next) in
-      let held : take (s .assembled .len) u ≡ old =
-      ⊎-elim (λ (z : s .assembled .len ≡ 0). absurd (positive (b .num) (blockSize b) num (size-least (b .«size_exponent»)) (start ∙ z))) (λ e. e) has in
-      appended b (s .assembled .len) n (met-other b o) start inside (k .body) ∙ ap (λ (l : List ℕ). l ++ r .payload) held ∙ sym (joined-other b o))
-    where
-      positive : (n s : ℕ) → (n ≡ 0 → ⊥) → 16 ≤ s → n * s ≡ 0 → ⊥
-      positive zero s nz h e = nz refl
-      positive (suc n) s nz h e = omega arith
+      let len : ℕ = s .assembled .len in
+      let other : b .num ≡ 0 → ⊥ = λ e. clash-of (eqb (b .num) 0) (eq-eqb (b .num) 0 e) o in
+      let start : blockStart b ≡ len = passed-next (s .assembled) b other (rw strict at (k .next)) .0 in
+      let met = meets-all (c .strict) (s .assembled) b (λ _ e. absurd (other e)) in
+      let held : take len u ≡ old = ⊎-elim (λ (z : len ≡ 0). absurd (other (starts-first b (start ∙ z)))) (λ e. e) has in
+      rw o (goes-behind b len n met start inside (k .body) ∙ ap (λ (l : List ℕ). l ++ r .payload) held))
 
   -- so is the entry once its step is done
   keeps : (g : Left) → Outcome c home away s u r g → Has (g .state .assembled) (g .piece) (takenBy (request r) (g .answer) old)
@@ -262,7 +237,7 @@ module _ (c : Config) (strict : c .strict ≡ true) (w : World) (q : Call) (k ol
     placed (request r) hb i i16 = of-request r (hb .0) (hb .1) i i16
     placed (response r) hb i i16 =
         let d : List ℕ = pieceOf (c .response) here (w .response) in
-        rw (cond-same (same k (q .key)) old) (of-response _ (storing-assembled c (e .state) d r _ (storing c (e .state) d r)) i i16)
+        rw (cond-same (same k (q .key)) old) (of-response _ (storing-assembled c (e .state) d r) i i16)
 
   refused-taken : (n : ℕ) → takenOn k old q (Refused n) ≡ old
   refused-taken n = as-it-was (q .what)
@@ -327,13 +302,10 @@ hands-what-was-taken c w calls q r b body strict fresh ab er e =
     let f : WorldFits c w = fresh-fits c w fresh in
     let before : AllBytes calls = all-front _ calls (q ∷ []) ab in
     let bytes : WhatBytes (request r) = rw er at (all-behind _ calls (q ∷ []) ab .0) in
-    let known : Known c w (q .key) [] = λ i i16 h. inl (rw (at-fresh i i16)) in
+    let known : Known c w (q .key) [] = λ i i16 h. inl (rw (fresh-entry w (fresh .table) i i16)) in
     let old : List ℕ = allTaken call c w (q .key) [] calls in
     let d : Done = call c (after call c w calls) q in
     rw (taken-cut call c (q .key) calls q w [], same-refl (q .key))
     (ap (λ (x : What). bodyOf (d .answer) (payloadOf x) (d .world .upload)) er
     ∙ handed-body c strict (after call c w calls) q old r b body (after-fits c calls w f before) bytes (known-run c strict (q .key) calls w [] f before known) er e
     ∙ ap (λ (x : What). takenBy x (d .answer) old) (sym er))
-  where
-    at-fresh : (i : ℕ) → i < 16 → entryAt w i ≡ free
-    at-fresh i i16 = rw (fresh .table) (getD-replicate 16 i free free i16)

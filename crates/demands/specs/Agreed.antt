@@ -10,7 +10,7 @@ use Rattle.negotiation.specs.Chunk.{chunkBlock}
 use Rattle.negotiation.specs.declared.MaybeBlock.the-variants.{Given}
 use Rattle.negotiation.specs.declared.Negotiated.{Negotiated}
 use Rattle.negotiation.specs.declared.Negotiated.the-variants.{Block, Refused}
-use Rattle.block_state.specs.declared.Config.{Config}
+use Rattle.config.specs.declared.Config.{Config}
 use Rattle.block_state.specs.Message.{Request, Response, request, response}
 use Rattle.block_state.specs.Answers.{said}
 use Rattle.block_state.specs.State.{recordedBlock}

@@ -21,7 +21,7 @@ use Rattle.negotiation.specs.declared.Chunk.the-variants as chunk
 use Rattle.splicing.specs.Splice.{spliceOf, spliced}
 use Rattle.splicing.specs.declared.Splice.{Splice}
 use Rattle.splicing.specs.declared.Splice.the-variants as splice
-use Rattle.block_state.specs.declared.Config.{Config}
+use Rattle.config.specs.declared.Config.{Config}
 use Rattle.block_state.specs.declared.BlockState.{BlockState}
 use Rattle.block_state.specs.declared.Answer.{Answer}
 use Rattle.block_state.specs.declared.Answer.the-variants as answer

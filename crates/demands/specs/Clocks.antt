@@ -1,13 +1,13 @@
--- OTHER LANES' CLOCKS, AND THE KEY'S OWN RESPONSES. Demand 3 asks that no call's time is before that of the call before it, and that the key has no call but the blocks. Less will
--- do. Each REQUEST ON THE KEY is not before any call that came ahead of it; other calls may go back as they like: before the clock they are refused, and change nothing. (A
--- call that is ahead of its time is another matter: unless it is refused with 1 or 3 it sets the clock, and whoever comes before that time is refused.) And RESPONSES ON THE KEY may stand anywhere, as they do
--- wherever a body that was handed on is answered.
+-- OTHER LANES' CLOCKS, AND THE KEY'S OWN RESPONSES. Demand 3 asks that no call's time is before that of the call before it, and that the key has no call but the blocks.
+-- Less will do. Each REQUEST ON THE KEY is not before any call that came ahead of it; other calls may go back as they like: before the clock they are refused, and change
+-- nothing. (A call that is ahead of its time is another matter: unless it is refused with 1 or 3 it sets the clock, and whoever comes before that time is refused.) And
+-- RESPONSES ON THE KEY may stand anywhere, as they do wherever a body that was handed on is answered.
 use Prim.Native.Nat.{ℕ, _≤_, max}
 use mathlib.Core.Bool.{Bool, true, false, cond, _&&_}
 use mathlib.Core.Path.{_≡_}
 use mathlib.Core.Logic.{_⊎_}
 use mathlib.Core.List.{List, [], _∷_, map}
-use Rattle.block_state.specs.declared.Config.{Config}
+use Rattle.config.specs.declared.Config.{Config}
 use Rattle.block_state.specs.Message.{What, request, response}
 use Rattle.keys.specs.Keys.{same}
 use Rattle.block_handler.specs.Call.{World, Call}

@@ -10,7 +10,7 @@ use denote.Ref.{now}
 use denote.Triple.Clauses.{AtExit}
 use borrow.Fn.World.{ArgsD, ResD}
 use borrow.Fn.Kinds.{endedOf}
-use Rattle.block_state.specs.declared.Config.{Config}
+use Rattle.config.specs.declared.Config.{Config}
 use Rattle.answers.specs.Parts.{bodyOf}
 use Rattle.answers.proofs.body
 use Rattle.block_handler.specs.Call.{World, Call, Done, call}

@@ -10,7 +10,7 @@ use Rattle.pieces.specs.Memory.{part}
 use Rattle.block_value.specs.Value.{sizeOf}
 use Rattle.negotiation.specs.Negotiation.{requestBlock}
 use Rattle.negotiation.specs.declared.MaybeBlock.the-variants.{Absent, Given}
-use Rattle.block_state.specs.declared.Config.{Config}
+use Rattle.config.specs.declared.Config.{Config}
 use Rattle.block_state.specs.declared.BlockState.{BlockState}
 use Rattle.block_state.specs.declared.Answer.the-variants.{Continue, Handed}
 use Rattle.block_state.specs.Message.{Request}

@@ -8,7 +8,7 @@ use mathlib.Core.Path.{_≡_}
 use mathlib.Core.List.{List, [], _∷_, _++_}
 use lib.ListN.{length, replicate}
 use Rattle.block_value.specs.Value.{sizeOf}
-use Rattle.block_state.specs.declared.Config.{Config}
+use Rattle.config.specs.declared.Config.{Config}
 use Rattle.block_handler.specs.Call.{World, Call}
 use Rattle.demands.specs.Demand3.{Handler, after, Sent, callOn, All}
 use Rattle.demands.specs.Clocks.{GrantedOwn}

@@ -1,6 +1,6 @@
 // A lane takes a price list of one block, and shows it.
 fn main() {
-    let config = limits::default_config(true, 1024, 1024); // strict mode, pieces of 1 KiB
+    let config = config::default_config(true, 1024, 1024); // strict mode, pieces of 1 KiB
     let table = block_table::fresh();
     let mut upload = [0u8; 16384];
     let response = [0u8; 16384];

@@ -6,7 +6,7 @@ use lib.ListN.{length, take, drop, replicate, length-replicate}
 use lib.Seq.{take-at, drop-at}
 use Rattle.pieces.specs.Memory.{patch}
 use Rattle.pieces.proofs.Memory.{patch-lent}
-use Rattle.block_state.specs.declared.Config.{Config}
+use Rattle.config.specs.declared.Config.{Config}
 use Rattle.block_table.specs.declared.Table.{Table}
 use Rattle.block_table.specs.Table.{freshTable}
 use Rattle.block_handler.specs.Contract.{world}

@@ -1,5 +1,5 @@
 // A fresh start of a replay, and what any line leaves of what is lent to it.
-use block_state::Config;
+use config::Config;
 use script_state::State;
 use script_state::Step;
 ghost use Prim.Native.Nat.{_+_, _*_, _≤_};

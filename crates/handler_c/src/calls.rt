@@ -1,7 +1,7 @@
 // What the two calls change of a table by value, with the answer in numbers.
 use crate::Outcome;
-use block_state::Config;
 use block_table::Table;
+use config::Config;
 ghost use Rattle.block_handler.specs.Contract.{world, requestCall, responseCall, changed};
 ghost use Rattle.handler_c.specs.Contract.{Replies};
 

@@ -1,9 +1,9 @@
 // The handler for programs in C and Rust: its calls on a table and memories that the caller owns, with answers as numbers.
 use block_handler::Change;
-use block_state::Config;
 use block_table::Table;
 use block_value::BlockValue;
 use block_value::Reading;
+use config::Config;
 use replies::Block;
 use replies::Found;
 use replies::Reply;
@@ -38,7 +38,7 @@ pub extern "C" fn block_handler_default_config(
 ) -> Config
     ensures { λ r. ⌜ r ≡ record { strict = strict; limit = 1152; lifetime = 120000; upload = upload; response = response } ⌝ }
 {
-    limits::default_config(strict, upload, response)
+    config::default_config(strict, upload, response)
 }
 
 #[no_mangle]

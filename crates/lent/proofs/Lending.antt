@@ -31,9 +31,9 @@ use denote.Struct.Laws as LL
 use Rattle.entries.specs.declared.Entry.{Entry}
 use Rattle.entries.proofs.Entry as T
 use Rattle.entries.proofs.Entry.Laws as T′
-use Rattle.block_state.specs.declared.Config.{Config}
-use Rattle.block_state.proofs.Config as K
-use Rattle.block_state.proofs.Config.Laws as K′
+use Rattle.config.specs.declared.Config.{Config}
+use Rattle.config.proofs.Config as K
+use Rattle.config.proofs.Config.Laws as K′
 use Rattle.replies.specs.declared.Reply.{Reply}
 use Rattle.replies.proofs.Reply as S
 use Rattle.replies.proofs.Reply.Laws as S′

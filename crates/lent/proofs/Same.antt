@@ -11,7 +11,7 @@ use Rattle.pieces.specs.Memory.{pieceOf, putPiece}
 use Rattle.pieces.proofs.Memory.{piece-order, length-piece}
 use Rattle.pieces.proofs.Tests.{ands}
 use Rattle.block_state.proofs.Fits.{fits-state}
-use Rattle.block_state.specs.declared.Config.{Config}
+use Rattle.config.specs.declared.Config.{Config}
 use Rattle.block_state.specs.Message.{What, request, response}
 use Rattle.entries.specs.declared.Entry.{Entry}
 use Rattle.block_table.specs.Table.{at}

@@ -5,7 +5,7 @@ use mathlib.Core.Path.{_≡_}
 use mathlib.Core.List.{List}
 use lib.ListN.{length}
 use lib.Dec.{leb, ltb, eqb}
-use Rattle.block_state.specs.declared.Config.{Config}
+use Rattle.config.specs.declared.Config.{Config}
 use Rattle.block_state.specs.declared.Answer.{Answer}
 use Rattle.block_state.specs.declared.Answer.the-variants.{Refused}
 use Rattle.block_state.specs.Message.{Request, Response}

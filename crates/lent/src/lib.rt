@@ -1,5 +1,5 @@
 // The lent forms of document 01: one key's entry by `&mut`, and the table's entries as a lent row.
-use block_state::Config;
+use config::Config;
 use entries::Entry;
 use replies::Reply;
 ghost use mathlib.Core.Path.{_≡_};

@@ -1,8 +1,9 @@
 // A call's step on an entry by value, with the answer in numbers.
 use crate::Outcome;
 use block_state::Answer;
-use block_state::Config;
 use block_state::Stepped;
+use block_state::limits;
+use config::Config;
 use entries::Entry;
 ghost use mathlib.Core.Path.{_≡_};
 ghost use Rattle.block_state.specs.Contract.{asking, replying};

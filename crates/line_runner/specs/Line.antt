@@ -4,7 +4,7 @@ use mathlib.Core.Bool.{Bool, cond}
 use mathlib.Core.List.{List}
 use lib.Dec.{ltb}
 use lib.ListN.{length}
-use Rattle.block_state.specs.declared.Config.{Config}
+use Rattle.config.specs.declared.Config.{Config}
 use Rattle.block_handler.specs.Call.{World}
 use Rattle.script.specs.Line.{lineOf}
 use Rattle.answer_text.specs.Answer.{unreadableText}

@@ -9,9 +9,9 @@ use lib.ListN.{length, take, drop, getD, length-drop}
 use lib.Seq.{drop-drop, length-take-le}
 use borrow.Author.Tests.{le-leb, lt-leb, eq-eqb, ne-eqb, leb-true, eqb-true}
 use Rattle.pieces.proofs.Tests.{both}
-use Rattle.message.specs.Format.{CoapOption, Options, broken, options, optionsOf, payloadBytes, malformed, headOk, meaningWith, meaningOf}
+use Rattle.message.specs.Format.{CoapOption, Options, broken, options, optionsOf, payloadBytes, Meaning, malformed, headOk, meaningWith, meaningOf}
 use Rattle.message.specs.Format as format
-use Rattle.message.specs.Reader.{between, endsOf, readingOf, readOf}
+use Rattle.message.specs.Reader.{between, packetWith, endsOf, readingOf, readOf}
 use Rattle.message.specs.declared.Ends.{Ends}
 use Rattle.message.specs.declared.Ends.the-variants as ends-variants
 use Rattle.message.specs.declared.Reading.the-variants.{Message, Refused}
@@ -72,7 +72,10 @@ read-short (a ∷ b ∷ x ∷ []) h = refl
 read-short (a ∷ b ∷ x ∷ y ∷ rest) h = absurd (omega arith)
 
 pub meaning-long : (bytes : List ℕ) → 4 ≤ length bytes
-    → meaningOf bytes ≡ cond (headOk (getD bytes 0 0) (getD bytes 1 0) (length bytes - 4)) (meaningWith (getD bytes 0 0) (getD bytes 1 0) (getD bytes 2 0 * 256 + getD bytes 3 0) (drop 4 bytes) (optionsOf 0 (drop (getD bytes 0 0 % 16) (drop 4 bytes)))) malformed
+    → meaningOf bytes
+    ≡ cond (headOk (getD bytes 0 0) (getD bytes 1 0) (length bytes - 4))
+    (meaningWith (getD bytes 0 0) (getD bytes 1 0) (getD bytes 2 0 * 256 + getD bytes 3 0) (drop 4 bytes) (optionsOf 0 (drop (getD bytes 0 0 % 16) (drop 4 bytes))))
+    malformed
 unfolding meaningOf
 meaning-long [] h = absurd (omega arith)
 meaning-long (a ∷ []) h = absurd (omega arith)
@@ -81,73 +84,72 @@ meaning-long (a ∷ b ∷ x ∷ []) h = absurd (omega arith)
 meaning-long (a ∷ b ∷ x ∷ y ∷ rest) h =
     ap (λ (n : ℕ). cond (headOk a b n) (meaningWith a b (x * 256 + y) rest (optionsOf 0 (drop (a % 16) rest))) malformed) (omega arith)
 
-module _ (bytes : List ℕ) (long : 4 ≤ length bytes) (first code : ℕ) (is-first : first ≡ getD bytes 0 0) (is-code : code ≡ getD bytes 1 0) where
-  pub read-head : headOk first code (length bytes - 4) ≡ false → Refused 11 ≡ readOf bytes
-  read-head e = rw (meaning-long bytes long, ← is-first, ← is-code, e)
+module _ (bytes : List ℕ) (long : 4 ≤ length bytes) (first : ℕ) (is-first : first ≡ getD bytes 0 0) where
+  pub read-head : headOk first (getD bytes 1 0) (length bytes - 4) ≡ false → Refused 11 ≡ readOf bytes
+  read-head e = rw (meaning-long bytes long, ← is-first, e)
 
-  module _ (ok : headOk first code (length bytes - 4) ≡ true) where
-    pub meaning-headed : meaningOf bytes ≡ meaningWith first code (getD bytes 2 0 * 256 + getD bytes 3 0) (drop 4 bytes) (optionsOf 0 (drop (first % 16) (drop 4 bytes)))
-    meaning-headed = meaning-long bytes long ∙ rw (← is-first, ← is-code, ok)
+  module _ (ok : headOk first (getD bytes 1 0) (length bytes - 4) ≡ true) where
+    -- what the bytes mean, by the options that are found
+    abbrev meant : Options → Meaning
+    meant = meaningWith first (getD bytes 1 0) (getD bytes 2 0 * 256 + getD bytes 3 0) (drop 4 bytes)
+
+    abbrev found : Options
+    found = optionsOf 0 (drop (first % 16) (drop 4 bytes))
+
+    pub meaning-headed : meaningOf bytes ≡ meant found
+    meaning-headed = meaning-long bytes long ∙ rw (← is-first, ok)
 
     -- the token is there, so the options begin in the message
     pub token-there : 4 + first % 16 ≤ length bytes
-    token-there = let h = head-tells first code (length bytes - 4) ok in omega (arith, h .there)
+    token-there = let h = head-tells first (getD bytes 1 0) (length bytes - 4) ok in omega (arith, h .there)
 
     -- the options begin after the token
-    after-token : optionsOf 0 (drop (4 + first % 16) bytes) ≡ optionsOf 0 (drop (first % 16) (drop 4 bytes))
+    after-token : optionsOf 0 (drop (4 + first % 16) bytes) ≡ found
     after-token = ap (optionsOf 0) (sym (drop-drop (first % 16) 4 bytes))
 
     module _ (ends : Ends) (is-ends : ends ≡ endsOf (optionsOf 0 (drop (4 + first % 16) bytes))) where
-      is-ends′ : ends ≡ endsOf (optionsOf 0 (drop (first % 16) (drop 4 bytes)))
+      is-ends′ : ends ≡ endsOf found
       is-ends′ = is-ends ∙ ap endsOf after-token
 
       pub read-bad : ends ≡ ends-variants.Malformed → Refused 11 ≡ readOf bytes
-      read-bad e = go (optionsOf 0 (drop (first % 16) (drop 4 bytes))) refl
+      read-bad e = go found refl
         where
-          go : (o : Options) → optionsOf 0 (drop (first % 16) (drop 4 bytes)) ≡ o → Refused 11 ≡ readOf bytes
-          go broken p = sym (ap (readingOf (length bytes)) (meaning-headed ∙ ap (meaningWith first code (getD bytes 2 0 * 256 + getD bytes 3 0) (drop 4 bytes)) p))
+          go : (o : Options) → found ≡ o → Refused 11 ≡ readOf bytes
+          go broken p = sym (ap (readingOf (length bytes)) (meaning-headed ∙ ap meant p))
           go (options list left) p = absurd (let z : _≡_ {A = ℕ} 0 1 = cc (sym e ∙ is-ends′ ∙ ap endsOf p) in omega arith)
 
       module _ (left : ℕ) (is-left : ends ≡ ends-variants.Left left) where
         -- the options that there are, and what is left after them
-        taken-options : (list : List CoapOption) × (rest : List ℕ) × (optionsOf 0 (drop (first % 16) (drop 4 bytes)) ≡ options list rest) × (left ≡ length rest)
-        taken-options = go (optionsOf 0 (drop (first % 16) (drop 4 bytes))) refl
+        taken-options : (list : List CoapOption) × (rest : List ℕ) × (found ≡ options list rest) × (left ≡ length rest)
+        taken-options = go found refl
           where
-            go : (o : Options) → optionsOf 0 (drop (first % 16) (drop 4 bytes)) ≡ o → (list : List CoapOption) × (rest : List ℕ) × (optionsOf 0 (drop (first % 16) (drop 4 bytes)) ≡ options list rest) × (left ≡ length rest)
+            go : (o : Options) → found ≡ o → (list : List CoapOption) × (rest : List ℕ) × (found ≡ options list rest) × (left ≡ length rest)
             go broken p = absurd (let z : _≡_ {A = ℕ} 0 1 = cc (sym is-left ∙ is-ends′ ∙ ap endsOf p) in omega arith)
             go (options list rest) p = (list, rest, p, cc (sym is-left ∙ is-ends′ ∙ ap endsOf p))
 
         after : LeftOf (drop (first % 16) (drop 4 bytes)) (taken-options .1)
-        after = options-left (suc (length (drop (first % 16) (drop 4 bytes)))) 0 (drop (first % 16) (drop 4 bytes)) (taken-options .0) (taken-options .1) (taken-options .2)
+        after = options-left _ 0 _ (taken-options .0) (taken-options .1) (taken-options .2)
 
         pub left-within : left ≤ length bytes
         left-within = omega (arith, taken-options .3, after .short, length-drop (first % 16) (drop 4 bytes), length-drop 4 bytes)
 
-        pub read-taken : (messageType id payload : ℕ) → messageType ≡ first / 16 % 4 → id ≡ getD bytes 2 0 * 256 + getD bytes 3 0 → payload ≡ left - 1
-            → Message (record {
-              «message_type» = messageType;
-              code = code;
-              «message_id» = id;
-              token = between 4 (4 + first % 16);
-              options = between (4 + first % 16) (length bytes - left);
-              payload = between (length bytes - payload) (length bytes);
-            })
-            ≡ readOf bytes
-        read-taken messageType id payload is-type is-id is-payload =
-            let h = head-tells first code (length bytes - 4) ok in
-            let token : first % 16 ≡ length (take (first % 16) (drop 4 bytes)) = sym (length-take-le (first % 16) (drop 4 bytes) (omega (arith, h .there, length-drop 4 bytes))) in
+        pub read-taken : Message (packetWith bytes first left) ≡ readOf bytes
+        read-taken =
+            let h = head-tells first (getD bytes 1 0) (length bytes - 4) ok in
+            let fits : first % 16 ≤ length (drop 4 bytes) = omega (arith, h .there, length-drop 4 bytes) in
+            let token : first % 16 ≡ length (take (first % 16) (drop 4 bytes)) = sym (length-take-le (first % 16) (drop 4 bytes) fits) in
             let with-marker : left ≡ length (payloadBytes (drop 1 (taken-options .1))) = taken-options .3 ∙ sym (ap length (after .marker)) in
-            let bare : payload ≡ length (drop 1 (taken-options .1)) = is-payload ∙ omega (arith, taken-options .3, length-drop 1 (taken-options .1)) in
+            let bare : left - 1 ≡ length (drop 1 (taken-options .1)) = omega (arith, taken-options .3, length-drop 1 (taken-options .1)) in
             (λ i.
             Message (record {
-              «message_type» = is-type i;
-              code = code;
-              «message_id» = is-id i;
+              «message_type» = first / 16 % 4;
+              code = getD bytes 1 0;
+              «message_id» = getD bytes 2 0 * 256 + getD bytes 3 0;
               token = between 4 (4 + token i);
               options = between (4 + token i) (length bytes - with-marker i);
               payload = between (length bytes - bare i) (length bytes);
             }))
-            ∙ sym (ap (readingOf (length bytes)) (meaning-headed ∙ ap (meaningWith first code (getD bytes 2 0 * 256 + getD bytes 3 0) (drop 4 bytes)) (taken-options .2)))
+            ∙ sym (ap (readingOf (length bytes)) (meaning-headed ∙ ap meant (taken-options .2)))
 
 -- ---- what a message that is taken tells
 

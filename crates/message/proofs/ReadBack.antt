@@ -9,7 +9,8 @@ use lib.ListN.{length, take, drop, length-append}
 use lib.Seq.{take-at, drop-at}
 use borrow.Author.Tests.{ltb-true, ltb-false, leb-true, eqb-true, eqb-false, eq-eqb, ne-eqb}
 use Rattle.pieces.proofs.Tests.{both}
-use Rattle.message.specs.Format.{CoapOption, Message, nibbleOf, extension, optionHead, optionBytes, optionsBytes, payloadBytes, headBytes, bytesOf, optionsOk, emptyOk, encodable, extras, extended, valueFrom, valueTo, marked, optionIn, nextIn, options, withOption, optionsOf, headOk, meaningWith, meaningOf, malformed, means}
+use Rattle.message.specs.Format.{CoapOption, Message, nibbleOf, extension, optionHead, optionBytes, optionsBytes, payloadBytes, headBytes, bytesOf, optionsOk, emptyOk, encodable}
+use Rattle.message.specs.Format.{extras, extended, valueFrom, valueTo, marked, optionIn, nextIn, options, withOption, optionsOf, headOk, meaningWith, meaningOf, malformed, means}
 use Rattle.message.specs.declared.Next.the-variants.{Option, End}
 use Rattle.message.proofs.Laws.{option-is, next-option, options-more, options-end}
 use Rattle.message.proofs.Messages.{head-full, head-empty}
@@ -224,9 +225,10 @@ module _ (m : Message) (is : encodable m ≡ true) where
   pub read-back : meaningOf (bytesOf m) ≡ means m
   unfolding meaningOf bytesOf headBytes first after
   read-back =
-      let token : take (first % 16) after ≡ m .token = take-at (m .token) (optionsBytes 0 (m .options) ++ payloadBytes (m .payload)) (first % 16) (sym first-token) in
-      let rest : drop (first % 16) after ≡ optionsBytes 0 (m .options) ++ payloadBytes (m .payload) = drop-at (m .token) (optionsBytes 0 (m .options) ++ payloadBytes (m .payload)) (first % 16) (sym first-token) in
-      let list : optionsOf 0 (drop (first % 16) after) ≡ options (m .options) (payloadBytes (m .payload)) = ap (optionsOf 0) rest ∙ options-back 0 (m .options) (m .payload) (e .options-ok) in
+      let rest : List ℕ = optionsBytes 0 (m .options) ++ payloadBytes (m .payload) in
+      let token : take (first % 16) after ≡ m .token = take-at (m .token) rest (first % 16) (sym first-token) in
+      let list : optionsOf 0 (drop (first % 16) after) ≡ options (m .options) (payloadBytes (m .payload)) =
+      ap (optionsOf 0) (drop-at (m .token) rest (first % 16) (sym first-token)) ∙ options-back 0 (m .options) (m .payload) (e .options-ok) in
       let type : first / 16 % 4 ≡ m .messageType = omega (arith, e .token-short, e .type-small) in
       let id : m .messageId / 256 * 256 + m .messageId % 256 ≡ m .messageId = omega arith in
       ap (λ (h : Bool). cond h (meaningWith first (m .code) (m .messageId / 256 * 256 + m .messageId % 256) after (optionsOf 0 (drop (first % 16) after))) malformed) head-taken

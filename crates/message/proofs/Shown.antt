@@ -5,16 +5,16 @@ use mathlib.Core.List.{List, [], _∷_, _++_, append-assoc}
 use Prim.Native.Nat.{ℕ, zero, suc, _+_, _-_, _*_, _%_, _≤_}
 use native.Mathlib.Omega.{arith}
 use lib.Dec.{eqb}
-use lib.ListN.{length, take, drop, length-append, length-drop, drop-of-length-le}
+use lib.ListN.{length, take, drop, getD, length-append, length-drop, drop-of-length-le}
 use lib.Seq.{drop-drop, length-take-le, take-at, drop-at, take-all}
 use Rattle.pieces.specs.Memory.{within}
 use Rattle.pieces.proofs.Memory.{within-there}
-use Rattle.message.specs.Format.{CoapOption, Message, Bytes, optionsBytes, payloadBytes, headBytes, bytesOf, nextIn, Options, broken, options, onNext, optionsIn, optionsOf, malformed, means, headOk, meaningWith, meaningOf}
+use Rattle.message.specs.Format.{CoapOption, Message, Bytes, optionsBytes, payloadBytes, headBytes, bytesOf, nextIn, options, onNext, optionsIn, optionsOf, means, meaningOf}
 use Rattle.message.specs.Reader.{packetOf, withoutPayload, counted, nextAt, foundFrom, value, nthOf, valueAt}
 use Rattle.message.specs.declared.Next.{Next}
 use Rattle.message.specs.declared.Next.the-variants.{Option, End, Malformed}
 use Rattle.message.proofs.Laws.{next-bounds, options-more, options-end, options-bad, options-left, no-options, end-no-option, with-tells, found-none, found-on, found-here}
-use Rattle.message.proofs.Messages.{no-meaning, head-tells}
+use Rattle.message.proofs.Messages.{head-tells, meaning-tells}
 use Rattle.message.proofs.WriteBack.{write-back}
 
 -- ---- what is left after the options stands at the end
@@ -75,20 +75,13 @@ listed bytes t list left h are m is-token is-options is-payload =
 
 -- a message that was read stands in its bytes
 pub parts : (bytes : List ℕ) (m : Message) → meaningOf bytes ≡ means m → Parts bytes m
-unfolding meaningOf
-parts [] m e = absurd (no-meaning e)
-parts (a ∷ []) m e = absurd (no-meaning e)
-parts (a ∷ b ∷ []) m e = absurd (no-meaning e)
-parts (a ∷ b ∷ x ∷ []) m e = absurd (no-meaning e)
-parts (a ∷ b ∷ x ∷ y ∷ rest) m e = go (headOk a b (length rest)) refl (optionsOf 0 (drop (a % 16) rest)) refl e
-  where
-    go : (ok : Bool) → headOk a b (length rest) ≡ ok → (o : Options) → optionsOf 0 (drop (a % 16) rest) ≡ o → cond ok (meaningWith a b (x * 256 + y) rest o) malformed ≡ means m → Parts (a ∷ b ∷ x ∷ y ∷ rest) m
-    go false h o p q = absurd (no-meaning q)
-    go true h broken p q = absurd (no-meaning q)
-    go true h (options list left) p q =
-        let t = head-tells a b (length rest) h in
-        let n : length (a ∷ b ∷ x ∷ y ∷ rest) ≡ 4 + length rest = omega arith in
-        listed (a ∷ b ∷ x ∷ y ∷ rest) (a % 16) list left (omega (arith, t .there)) (ap (optionsOf 0) (sym (drop-drop (a % 16) 4 (a ∷ b ∷ x ∷ y ∷ rest))) ∙ p) m (cc) (cc) (cc)
+parts bytes m e =
+    let t = meaning-tells bytes m e in
+    let h = head-tells (getD bytes 0 0) (getD bytes 1 0) (length bytes - 4) (t .ok) in
+    let token : ℕ = getD bytes 0 0 % 16 in
+    let there : 4 + token ≤ length bytes = omega (arith, h .there, t .long) in
+    let after : optionsOf 0 (drop (4 + token) bytes) ≡ options (m .options) (t .left) = ap (optionsOf 0) (sym (drop-drop token 4 bytes)) ∙ t .listed in
+    listed bytes token (m .options) (t .left) there after m (t .token-is) refl (t .payload-is)
 
 module _ (bytes : List ℕ) (m : Message) (is : meaningOf bytes ≡ means m) where
   -- The options that are walked from where they begin are those of the message, up to the payload.
@@ -109,7 +102,10 @@ module _ (bytes : List ℕ) (m : Message) (is : meaningOf bytes ≡ means m) whe
       ∙ parts bytes m is .payload
 
   module _ (b : Bytes bytes) where
-    same : bytes ≡ (headBytes (m .messageType) (m .code) (m .messageId) (length (m .token))) ++ (m .token ++ (optionsBytes 0 (m .options) ++ payloadBytes (m .payload)))
+    abbrev head : List ℕ
+    head = headBytes (m .messageType) (m .code) (m .messageId) (length (m .token))
+
+    same : bytes ≡ head ++ (m .token ++ (optionsBytes 0 (m .options) ++ payloadBytes (m .payload)))
     unfolding bytesOf
     same = sym (write-back bytes m b is .same)
 
@@ -123,11 +119,12 @@ module _ (bytes : List ℕ) (m : Message) (is : meaningOf bytes ≡ means m) whe
         let from : ℕ = 4 + length (m .token) in
         let to : ℕ = length bytes - length (payloadBytes (m .payload)) in
         let span : to - from ≡ length (optionsBytes 0 (m .options)) = omega (arith, sizes) in
-        let front : List ℕ = (headBytes (m .messageType) (m .code) (m .messageId) (length (m .token))) ++ m .token in
-        let long : length front ≡ from = omega (arith, length-append ((headBytes (m .messageType) (m .code) (m .messageId) (length (m .token)))) (m .token)) in
-        let whole : bytes ≡ front ++ (optionsBytes 0 (m .options) ++ payloadBytes (m .payload)) = same ∙ sym (append-assoc ((headBytes (m .messageType) (m .code) (m .messageId) (length (m .token)))) (m .token) (optionsBytes 0 (m .options) ++ payloadBytes (m .payload))) in
+        let front : List ℕ = head ++ m .token in
+        let rest : List ℕ = optionsBytes 0 (m .options) ++ payloadBytes (m .payload) in
+        let long : length front ≡ from = omega (arith, length-append head (m .token)) in
+        let whole : bytes ≡ front ++ rest = same ∙ sym (append-assoc head (m .token) rest) in
         sym (within-there bytes from to (omega (arith, sizes)) (omega arith))
-        ∙ ap (take (to - from)) (ap (drop from) whole ∙ drop-at front (optionsBytes 0 (m .options) ++ payloadBytes (m .payload)) from long)
+        ∙ ap (take (to - from)) (ap (drop from) whole ∙ drop-at front rest from long)
         ∙ take-at (optionsBytes 0 (m .options)) (payloadBytes (m .payload)) (to - from) (sym span)
 
     -- `bare` is the length that the writer needs for the message without its payload.
@@ -141,6 +138,15 @@ value-shown bytes at from to h k l =
     sym (within-there bytes (at + from) (at + to) (omega arith) (omega (arith, length-drop at bytes))) ∙ rw (span, drop-drop from at bytes)
 
 -- ---- the options, one by one
+
+-- Options that begin with one are that one, and those of the rest.
+first-tells : (before : ℕ) (bytes : List ℕ) (number from to : ℕ) (list : List CoapOption) (left : List ℕ)
+    → nextIn before bytes ≡ Option number from to
+    → optionsOf before bytes ≡ options list left
+    → (more : List CoapOption) × (optionsOf number (drop to bytes) ≡ options more left) × (list ≡ record { number = number; value = take (to - from) (drop from bytes) } ∷ more)
+first-tells before bytes number from to list left p e =
+    let steps = sym (options-more before bytes number from to p) ∙ e in
+    with-tells number (take (to - from) (drop from bytes)) (optionsOf number (drop to bytes)) list left steps
 
 -- What is next, where options are left: the first of them, with its value, and the others after it.
 pub record NextIs (bytes : List ℕ) (at before : ℕ) (o : CoapOption) (list : List CoapOption) (left : List ℕ) : Type 0 where
@@ -157,7 +163,7 @@ module _ (bytes : List ℕ) (at before : ℕ) (left : List ℕ) (h : at ≤ leng
     where
       go : (next : Next) → nextIn before (drop at bytes) ≡ next → NextIs bytes at before o list left
       go (Option number from to) p =
-          let w = with-tells number (take (to - from) (drop from (drop at bytes))) (optionsOf number (drop to (drop at bytes))) (o ∷ list) left (sym (options-more before (drop at bytes) number from to p) ∙ e) in
+          let w = first-tells before (drop at bytes) number from to (o ∷ list) left p e in
           let is : o ≡ record { number = number; value = take (to - from) (drop from (drop at bytes)) } = cc (w .2) in
           let b = next-bounds before (drop at bytes) number from to p in
           let same : number ≡ o .number = ap (λ (x : CoapOption). x .number) (sym is) in
@@ -178,7 +184,7 @@ module _ (bytes : List ℕ) (at before : ℕ) (left : List ℕ) (h : at ≤ leng
     where
       go : (next : Next) → nextIn before (drop at bytes) ≡ next → counted at (nextIn before (drop at bytes)) ≡ End
       go (Option number from to) p =
-          let w = with-tells number (take (to - from) (drop from (drop at bytes))) (optionsOf number (drop to (drop at bytes))) [] left (sym (options-more before (drop at bytes) number from to p) ∙ e) in
+          let w = first-tells before (drop at bytes) number from to [] left p e in
           absurd (let z : _≡_ {A = ℕ} 0 1 = cc (w .2) in omega arith)
       go End p = ap (counted at) p
       go Malformed p = absurd (no-options (sym (options-bad before (drop at bytes) p) ∙ e))

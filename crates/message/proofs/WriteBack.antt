@@ -8,7 +8,8 @@ use lib.Dec.{eqb}
 use lib.ListN.{length, take, drop, length-append, length-drop, take-append-drop}
 use lib.Seq.{drop-drop, getD-drop, length-take-le}
 use borrow.Author.Tests.{lt-ltb, le-ltb, le-leb, eqb-true, eqb-false, eq-eqb}
-use Rattle.message.specs.Format.{CoapOption, Message, Bytes, nibbleOf, extension, optionHead, optionBytes, optionsBytes, payloadBytes, headBytes, bytesOf, optionsOk, emptyOk, encodable, extras, extended, nextIn, options, onNext, optionsIn, meaningOf, means}
+use Rattle.message.specs.Format.{CoapOption, Message, Bytes, nibbleOf, extension, optionHead, optionBytes, optionsBytes, payloadBytes, headBytes, bytesOf, optionsOk, emptyOk, encodable}
+use Rattle.message.specs.Format.{extras, extended, nextIn, options, onNext, optionsIn, meaningOf, means}
 use Rattle.message.specs.declared.Next.{Next}
 use Rattle.message.specs.declared.Next.the-variants.{Option, End, Malformed}
 use Rattle.message.proofs.Laws.{IsOption, next-tells, end-no-option, no-options, with-tells, options-left}

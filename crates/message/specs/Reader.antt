@@ -1,10 +1,10 @@
 -- What the reader gives of a message: where its parts stand. Nothing is copied.
-use Prim.Native.Nat.{ℕ, zero, suc, _+_, _-_, _≤_, _<_}
+use Prim.Native.Nat.{ℕ, zero, suc, _+_, _-_, _*_, _/_, _%_, _≤_, _<_}
 use mathlib.Core.Path.{_≡_}
 use mathlib.Core.Bool.{cond}
 use mathlib.Core.List.{List, [], _∷_}
 use lib.Dec.{eqb}
-use lib.ListN.{length, drop}
+use lib.ListN.{length, drop, getD}
 use Rattle.pieces.specs.Memory.{within}
 use Rattle.message.specs.Format.{CoapOption, Message, Options, broken, options, Meaning, malformed, means, payloadBytes, nextIn, optionsOf, meaningOf}
 use Rattle.message.specs.declared.Part.{Part}
@@ -54,6 +54,17 @@ packetOf n m = record {
   token = between 4 (4 + length (m .token));
   options = between (4 + length (m .token)) (n - length (payloadBytes (m .payload)));
   payload = between (n - length (m .payload)) n;
+}
+
+-- The same, by the first byte and how many bytes are left where the options end.
+abbrev pub packetWith : List ℕ → ℕ → ℕ → Packet
+packetWith bytes first left = record {
+  «message_type» = first / 16 % 4;
+  code = getD bytes 1 0;
+  «message_id» = getD bytes 2 0 * 256 + getD bytes 3 0;
+  token = between 4 (4 + first % 16);
+  options = between (4 + first % 16) (length bytes - left);
+  payload = between (length bytes - (left - 1)) (length bytes);
 }
 
 -- "11, malformed message or an option number above 65,535 .. returns no part of it."

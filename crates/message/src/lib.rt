@@ -7,7 +7,7 @@ pub use reader::next_option;
 pub use reader::nth_option;
 pub use reader::part_of;
 
-// The bytes from `from` on, up to `to` and without it.
+// The bytes from `from` on, up to `to` and without it. The reader stands apart from the handler, which has a `Part` of its own.
 #[repr(C)]
 pub struct Part {
     pub from: usize,

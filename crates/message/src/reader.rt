@@ -13,16 +13,10 @@ ghost use Prim.Native.Nat.{_+_, _-_, _*_, _≤_, _<_};
 ghost use lib.ListN.{length, drop};
 ghost use Rattle.pieces.specs.Memory.{within};
 ghost use Rattle.message.specs.Format.{extras, extended, optionIn, nextIn, optionsOf, headOk};
-ghost use Rattle.message.specs.Reader.{RunOf, endsOf, readOf, nextAt, foundFrom};
+ghost use Rattle.message.specs.Reader.{RunOf, endsOf, packetWith, readOf, nextAt, foundFrom};
 
 // How many calls a run of options may take: some two kilobytes of stack.
 const CALLS: usize = 32;
-
-fn wide(x: u8) -> usize
-    ensures { λ r. ⌜ (r ≡ x) × (r < 256) ⌝ }
-{
-    x as usize
-}
 
 // How many bytes extend a nibble.
 fn extra_bytes(nibble: usize) -> usize
@@ -44,10 +38,10 @@ fn extend(bytes: &[u8], at: usize, nibble: usize) -> usize
     ensures { λ r. ⌜ (r ≡ extended nibble (drop at (now (bytes .entry)))) × (r < 65805) ⌝ }
 {
     if nibble == 13 {
-        return wide(bytes[at]) + 13;
+        return wide::usize_of_u8(bytes[at]) + 13;
     }
     if nibble == 14 {
-        return wide(bytes[at]) * 256 + wide(bytes[at + 1]) + 269;
+        return wide::usize_of_u8(bytes[at]) * 256 + wide::usize_of_u8(bytes[at + 1]) + 269;
     }
     nibble
 }
@@ -89,7 +83,7 @@ fn next_in(bytes: &[u8], before: u16) -> Next
     if bytes.len() == 0 {
         return Next::End;
     }
-    let first = wide(bytes[0]);
+    let first = wide::usize_of_u8(bytes[0]);
     if first != 255 {
         return option_in(bytes, before, first / 16, first % 16);
     }
@@ -175,26 +169,16 @@ fn big_endian(high: u8, low: u8) -> u16
     high as u16 * 256 + low as u16
 }
 
-// Reads a whole message: Packet::from_bytes in the Rust.
-pub fn from_bytes(message: &[u8]) -> Reading
-    ensures { λ r. ⌜ r ≡ readOf (now (message .entry)) ⌝ }
+// The parts of a message that was judged, by its first byte and how many bytes are left where its options end.
+fn packet(message: &[u8], first: usize, left: usize) -> Packet
+    requires { ⌜ (4 ≤ length (now message)) × (first < 256) × (left ≤ length (now message)) ⌝ }
+    ensures { λ r. ⌜ r ≡ packetWith (now (message .entry)) first left ⌝ }
 {
     let n = message.len();
-    if n < 4 {
-        return Reading::Refused(11);
-    }
-    let first = wide(message[0]);
-    let code = message[1];
-    if !head_ok(first, code, n - 4) {
-        return Reading::Refused(11);
-    }
     let options = 4 + first % 16;
-    let Ends::Left(left) = options_end(message, options) else {
-        return Reading::Refused(11);
-    };
-    Reading::Message(Packet {
+    Packet {
         message_type: (first / 16 % 4) as u8,
-        code,
+        code: message[1],
         message_id: big_endian(message[2], message[3]),
         token: Part {
             from: 4,
@@ -208,7 +192,24 @@ pub fn from_bytes(message: &[u8]) -> Reading
             from: n - payload_length(left),
             to: n,
         },
-    })
+    }
+}
+
+// Reads a whole message: Packet::from_bytes in the Rust.
+pub fn from_bytes(message: &[u8]) -> Reading
+    ensures { λ r. ⌜ r ≡ readOf (now (message .entry)) ⌝ }
+{
+    if message.len() < 4 {
+        return Reading::Refused(11);
+    }
+    let first = wide::usize_of_u8(message[0]);
+    if !head_ok(first, message[1], message.len() - 4) {
+        return Reading::Refused(11);
+    }
+    let Ends::Left(left) = options_end(message, 4 + first % 16) else {
+        return Reading::Refused(11);
+    };
+    Reading::Message(packet(message, first, left))
 }
 
 // The length of the message encoded with its payload taken out: the marker goes too.

@@ -8,6 +8,7 @@ use message_writer::Writing;
 use option_table::Length;
 ghost use mathlib.Core.Path.{_≡_};
 ghost use Rattle.message.specs.Reader.{readOf, nextAt, foundFrom};
+ghost use Rattle.message_writer.specs.Writer.{given};
 ghost use Rattle.option_table.specs.Options.{allowedOf};
 ghost use Rattle.message_c.specs.Numbers.{option, noOption, malformedOption, packetRead, refusedRead, messageRead, optionNext, optionFound, WritesNumbers, lengthNumber};
 
@@ -164,7 +165,8 @@ pub extern "C" fn block_handler_message_write<'a>(
     values: &'a [u8],
     payload: &'a [u8],
 ) -> WrittenMessage
-    ensures { λ r. ⌜ WritesNumbers (now (out .entry)) (record { messageType = «message_type»; code = code; messageId = «message_id»; token = now (token .entry); numbers = now (numbers .entry); lengths = now (lengths .entry); values = now (values .entry); payload = now (payload .entry) }) (now (out .exit)) r ⌝ }
+    ensures { λ r. ⌜ WritesNumbers (now (out .entry)) (given «message_type» code «message_id» (now (token .entry))
+        (now (numbers .entry)) (now (lengths .entry)) (now (values .entry)) (now (payload .entry))) (now (out .exit)) r ⌝ }
 {
     match message_writer::to_bytes(
         out,

@@ -42,7 +42,8 @@ module _ (room : ℕ) (g : Given) where
   pub takes-by : Taken room g → takes room g ≡ true
   unfolding takes encodable
   takes-by t =
-      rw (t .described, le-leb (g .messageType) 3 (t .kind), le-leb (g .code) 255 (t .code), le-leb (g .messageId) 65535 (t .id), le-leb (length (g .token)) 8 (t .token), t .ok, t .empty, le-leb (length (bytesOf (messageOf g))) room (omega (arith, t .small, bytes-length g)))
+      let fits : length (bytesOf (messageOf g)) ≤ room = omega (arith, t .small, bytes-length g) in
+      rw (t .described, le-leb _ 3 (t .kind), le-leb _ 255 (t .code), le-leb _ 65535 (t .id), le-leb _ 8 (t .token), t .ok, t .empty, le-leb _ room fits)
 
   pub taken : takes room g ≡ true → Taken room g
   unfolding takes encodable

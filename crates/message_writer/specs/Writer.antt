@@ -23,6 +23,18 @@ pub record Given : Type 0 where
   pub values : List ℕ
   pub payload : List ℕ
 
+abbrev pub given : ℕ → ℕ → ℕ → List ℕ → List ℕ → List ℕ → List ℕ → List ℕ → Given
+given messageType code messageId token numbers lengths values payload = record {
+  messageType = messageType;
+  code = code;
+  messageId = messageId;
+  token = token;
+  numbers = numbers;
+  lengths = lengths;
+  values = values;
+  payload = payload;
+}
+
 -- Each option has a number, and the next bytes of the values, as many as its length says. Numbers, lengths and values that do not go together are
 -- ruled out by `describes`.
 unfoldable pub optionsFrom : List ℕ → List ℕ → List ℕ → List CoapOption
@@ -63,16 +75,9 @@ valuesOf [] = []
 valuesOf (o ∷ options) = o .value ++ valuesOf options
 
 abbrev pub givenOf : Message → Given
-givenOf m = record {
-  messageType = m .messageType;
-  code = m .code;
-  messageId = m .messageId;
-  token = m .token;
-  numbers = numbersOf (m .options);
-  lengths = lengthsOf (m .options);
-  values = valuesOf (m .options);
-  payload = m .payload;
-}
+givenOf m =
+    given (m .messageType) (m .code) (m .messageId) (m .token)
+    (numbersOf (m .options)) (lengthsOf (m .options)) (valuesOf (m .options)) (m .payload)
 
 -- "A message without an encoding that the reader takes .. or an output too small" is not taken.
 unfoldable pub takes : ℕ → Given → Bool

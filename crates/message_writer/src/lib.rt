@@ -2,7 +2,7 @@
 mod measure;
 mod put;
 
-ghost use Rattle.message_writer.specs.Writer.{Writes};
+ghost use Rattle.message_writer.specs.Writer.{given, Writes};
 
 pub enum Writing {
     // So many bytes, at the start of the output.
@@ -30,7 +30,8 @@ pub fn to_bytes<'a>(
     values: &'a [u8],
     payload: &'a [u8],
 ) -> Writing
-    ensures { λ r. ⌜ Writes (now (out .entry)) (record { messageType = «message_type»; code = code; messageId = «message_id»; token = now (token .entry); numbers = now (numbers .entry); lengths = now (lengths .entry); values = now (values .entry); payload = now (payload .entry) }) (now (out .exit)) r ⌝ }
+    ensures { λ r. ⌜ Writes (now (out .entry)) (given «message_type» code «message_id» (now (token .entry))
+        (now (numbers .entry)) (now (lengths .entry)) (now (values .entry)) (now (payload .entry))) (now (out .exit)) r ⌝ }
 {
     if measure::takes(
         out.len(),

@@ -2,17 +2,11 @@
 use crate::Room;
 ghost use mathlib.Core.Path.{_≡_};
 ghost use mathlib.Core.Bool.{cond, true};
-ghost use Prim.Native.Nat.{ℕ, _+_, _^_, _<_, _≤_};
+ghost use Prim.Native.Nat.{ℕ, _+_, _≤_};
 ghost use lib.Dec.{leb, eqb};
 ghost use lib.ListN.{length};
 ghost use Rattle.message.specs.Format.{extension, payloadBytes};
-ghost use Rattle.message_writer.specs.Writer.{takes, roomAfter, roomAfterOption};
-
-pub fn wide(x: u32) -> usize
-    ensures { λ r. ⌜ (r ≡ x) × (r < 2 ^ 32) ⌝ }
-{
-    x as usize
-}
+ghost use Rattle.message_writer.specs.Writer.{given, takes, roomAfter, roomAfterOption};
 
 // How many bytes extend the nibble of a delta or a length.
 fn extension_length(n: usize) -> usize
@@ -61,8 +55,8 @@ fn options<'a>(room: usize, numbers: &'a [u32], lengths: &'a [u32], values: &'a 
     let mut at = 0;
     let mut i = 0;
     while i < numbers.len() {
-        let number = wide(numbers[i]);
-        let len = wide(lengths[i]);
+        let number = wide::usize_of_u32(numbers[i]);
+        let len = wide::usize_of_u32(lengths[i]);
         let Room::Left(after) = option(left, before, number, len, values.len() - at) else {
             return Room::Small;
         };
@@ -114,7 +108,8 @@ pub fn takes<'a>(
     values: &'a [u8],
     payload: &'a [u8],
 ) -> bool
-    ensures { λ r. ⌜ ((id : ℕ) → id ≤ 65535 → r ≡ takes room (record { messageType = «message_type»; code = code; messageId = id; token = now (token .entry); numbers = now (numbers .entry); lengths = now (lengths .entry); values = now (values .entry); payload = now (payload .entry) })) ⌝ }
+    ensures { λ r. ⌜ ((id : ℕ) → id ≤ 65535 → r ≡ takes room (given «message_type» code id (now (token .entry))
+        (now (numbers .entry)) (now (lengths .entry)) (now (values .entry)) (now (payload .entry)))) ⌝ }
 {
     if 3 < message_type {
         return false;

@@ -1,5 +1,4 @@
 // The bytes of a message, put into an output that has room for them.
-use crate::measure::wide;
 ghost use mathlib.Core.Path.{_≡_};
 ghost use mathlib.Core.Bool.{true};
 ghost use mathlib.Core.List.{_++_};
@@ -32,8 +31,8 @@ fn extension(out: &mut [u8], at: usize, n: usize) -> usize
     if n < 269 {
         return pieces::put_byte(out, at, (n - 13) as u8);
     }
-    let next = pieces::put_byte(out, at, ((n - 269) / 256) as u8);
-    pieces::put_byte(out, next, ((n - 269) % 256) as u8)
+    let bytes = [((n - 269) / 256) as u8, ((n - 269) % 256) as u8];
+    pieces::put(out, at, &bytes)
 }
 
 fn option_head(out: &mut [u8], at: usize, delta: usize, len: usize) -> usize
@@ -72,8 +71,8 @@ pub fn options<'a>(
     let mut at = 0;
     let mut i = 0;
     while i < numbers.len() {
-        let number = wide(numbers[i]);
-        let end = at + wide(lengths[i]);
+        let number = wide::usize_of_u32(numbers[i]);
+        let end = at + wide::usize_of_u32(lengths[i]);
         to = option(out, to, number - before, &values[at..end]);
         before = number;
         at = end;
@@ -87,10 +86,14 @@ pub fn head(out: &mut [u8], message_type: u8, code: u8, message_id: u16, token: 
     requires { ⌜ 4 + length (now token) ≤ length (now out) ⌝ }
     ensures { λ r. ⌜ Put (now (out .entry)) 0 (opening «message_type» code «message_id» (now (token .entry))) (now (out .exit)) r ⌝ }
 {
-    let at = pieces::put_byte(out, 0, 64 + message_type * 16 + token.len() as u8);
-    let at = pieces::put_byte(out, at, code);
-    let at = pieces::put_byte(out, at, (message_id / 256) as u8);
-    let at = pieces::put_byte(out, at, (message_id % 256) as u8);
+    let first = 64 + message_type * 16 + token.len() as u8;
+    let head = [
+        first,
+        code,
+        (message_id / 256) as u8,
+        (message_id % 256) as u8,
+    ];
+    let at = pieces::put(out, 0, &head);
     pieces::put(out, at, token)
 }
 

@@ -1,5 +1,5 @@
 // The lines that a replay has beyond a script's, and what is printed for a fresh start.
-use block_state::Config;
+use config::Config;
 
 mod lines;
 

@@ -1,6 +1,6 @@
 // The lines that a replay has besides calls: a fresh start under another configuration, and the state shown.
 use crate::Control;
-use block_state::Config;
+use config::Config;
 use script::Split;
 use script_fields::Number;
 ghost use mathlib.Core.Path.{_≡_};

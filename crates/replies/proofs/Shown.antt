@@ -1,7 +1,7 @@
 -- The numbers that cross to C lose nothing: the answer can be read back from them, and they show the bytes that the answer shows. Assumes nothing.
 use Prim.Native.Nat.{ℕ, _-_}
-use mathlib.Core.Bool.{Bool, true, false, cond, _&&_}
-use mathlib.Core.Path.{_≡_, refl, sym, ap, _∙_}
+use mathlib.Core.Bool.{cond, _&&_}
+use mathlib.Core.Path.{_≡_, refl, ap}
 use mathlib.Core.List.{List}
 use native.Mathlib.Omega.{arith}
 use lib.ListN.{length}
@@ -11,25 +11,22 @@ use Rattle.pieces.specs.Memory.{part, within}
 use Rattle.block_value.specs.declared.BlockValue.{BlockValue}
 use Rattle.negotiation.specs.declared.MaybeBlock.{MaybeBlock}
 use Rattle.negotiation.specs.declared.MaybeBlock.the-variants.{Absent, Given}
+use Rattle.block_state.specs.declared.Recorded.{Recorded}
+use Rattle.block_state.specs.State.{recording, recordedBlock}
 use Rattle.block_state.specs.declared.Answer.{Answer}
 use Rattle.block_state.specs.declared.Answer.the-variants.{Continue, TooLarge, Handed, Pass, Served, Plain, Whole, First, Refused}
 use Rattle.pieces.proofs.Tests.{by-cases}
 use Rattle.answers.specs.declared.Source.{Source}
 use Rattle.answers.specs.declared.Source.the-variants.{Nothing, Message, Within}
-use Rattle.answers.specs.declared.Shows.{Shows}
-use Rattle.answers.specs.Parts.{shows, shownBy, bytesOf, bodyOf, servedHead, servedChunk, sentBytes}
-use Rattle.replies.specs.declared.Block.{Block}
+use Rattle.answers.specs.Parts.{bytesOf, bodyOf, servedHead, servedChunk, sentBytes}
 use Rattle.replies.specs.declared.Reply.{Reply}
 use Rattle.replies.specs.Reply.{replyOf}
 use Rattle.replies.specs.Found.{foundIn, bytesAt, bodyIn, servedHeadIn, chunkIn, sentIn}
 
 -- ---- reading back
 
-abbrev valueOf : Block → BlockValue
+abbrev valueOf : Recorded → BlockValue
 valueOf b = record { num = b .num; more = b .more; «size_exponent» = b .exponent }
-
-abbrev maybeOf : Block → MaybeBlock
-maybeOf b = cond (b .given) (Given (valueOf b)) Absent
 
 abbrev pub answerOf : Reply → Answer
 answerOf r =
@@ -37,36 +34,29 @@ answerOf r =
     (cond (eqb (r .kind) 2) (TooLarge (valueOf (r .block1)))
     (cond (eqb (r .kind) 3) (Handed (valueOf (r .block1)) (r .part))
     (cond (eqb (r .kind) 4) Pass
-    (cond (eqb (r .kind) 5) (Served (maybeOf (r .block1)) (valueOf (r .block2)) (r .head) (r .part))
+    (cond (eqb (r .kind) 5) (Served (record { block1 = recordedBlock (r .block1); block2 = valueOf (r .block2); head = r .head; chunk = r .part }))
     (cond (eqb (r .kind) 6) Plain
     (cond (eqb (r .kind) 7) (Whole (valueOf (r .block2)) (r .part))
     (cond (eqb (r .kind) 8) (First (valueOf (r .block2)) (r .part))
     (Refused (r .refusal)))))))))
+
+-- a recorded value can be read back
+recorded : (b : MaybeBlock) → recordedBlock (recording b) ≡ b
+recorded Absent = refl
+recorded (Given b) = refl
 
 pub read-back : (a : Answer) → answerOf (replyOf a) ≡ a
 read-back (Continue b) = refl
 read-back (TooLarge b) = refl
 read-back (Handed b body) = refl
 read-back Pass = refl
-read-back (Served Absent b head chunk) = refl
-read-back (Served (Given c) b head chunk) = refl
+read-back (Served s) = ap (λ (b : MaybeBlock). Served (record { block1 = b; block2 = s .block2; head = s .head; chunk = s .chunk })) (recorded (s .block1))
 read-back Plain = refl
 read-back (Whole b chunk) = refl
 read-back (First b chunk) = refl
 read-back (Refused n) = refl
 
 -- ---- what is shown
-
-pub shown : (a : Answer) → shows (bodyIn (replyOf a)) (servedHeadIn (replyOf a)) (chunkIn (replyOf a)) (sentIn (replyOf a)) ≡ shownBy a
-shown (Continue b) = refl
-shown (TooLarge b) = refl
-shown (Handed b body) = refl
-shown Pass = refl
-shown (Served block1 b head chunk) = refl
-shown Plain = refl
-shown (Whole b chunk) = refl
-shown (First b chunk) = refl
-shown (Refused n) = refl
 
 pub found-bytes : (s : Source) (message memory : List ℕ) → bytesAt (foundIn s (length message) (length memory)) message memory ≡ bytesOf s message memory
 unfolding foundIn bytesAt within part
@@ -77,13 +67,13 @@ found-bytes (Within p) message memory = by-cases (leb (p .from) (p .to) && leb (
 -- The bytes that a caller takes of each part are those that block_handler's own functions lend.
 module _ (a : Answer) where
   pub body-bytes : (payload upload : List ℕ) → bytesAt (foundIn (bodyIn (replyOf a)) (length payload) (length upload)) payload upload ≡ bodyOf a payload upload
-  body-bytes payload upload = found-bytes _ payload upload ∙ ap (λ (s : Shows). bytesOf (s .body) payload upload) (shown a)
+  body-bytes payload upload = found-bytes _ payload upload
 
   pub head-bytes : (m : List ℕ) → bytesAt (foundIn (servedHeadIn (replyOf a)) (length m) (length m)) m m ≡ servedHead a m
-  head-bytes m = found-bytes _ m m ∙ ap (λ (s : Shows). bytesOf (s .head) m m) (shown a)
+  head-bytes m = found-bytes _ m m
 
   pub chunk-bytes : (m : List ℕ) → bytesAt (foundIn (chunkIn (replyOf a)) (length m) (length m)) m m ≡ servedChunk a m
-  chunk-bytes m = found-bytes _ m m ∙ ap (λ (s : Shows). bytesOf (s .chunk) m m) (shown a)
+  chunk-bytes m = found-bytes _ m m
 
   pub sent-bytes : (m : List ℕ) → bytesAt (foundIn (sentIn (replyOf a)) (length m) (length m)) m m ≡ sentBytes a m
-  sent-bytes m = found-bytes _ m m ∙ ap (λ (s : Shows). bytesOf (s .sent) m m) (shown a)
+  sent-bytes m = found-bytes _ m m

@@ -1,25 +1,15 @@
 // Answers in numbers, as they cross to C, and where the bytes stand that they show.
 use block_state::Part;
+use block_state::Recorded;
 
 mod numbers;
 
 pub use numbers::body_in;
 pub use numbers::chunk_in;
 pub use numbers::found_in;
-pub use numbers::given;
-pub use numbers::no_block;
 pub use numbers::reply_of;
 pub use numbers::sent_in;
 pub use numbers::served_head_in;
-
-// A block value, or none: all zeros.
-#[repr(C)]
-pub struct Block {
-    pub given: bool,
-    pub more: bool,
-    pub exponent: u8,
-    pub num: u32,
-}
 
 // An answer in numbers.
 #[repr(C)]
@@ -30,8 +20,9 @@ pub struct Reply {
     pub refusal: u8,
     // The response code of an answer that has one, else 0.
     pub code: u8,
-    pub block1: Block,
-    pub block2: Block,
+    // A block value, or none: all zeros.
+    pub block1: Recorded,
+    pub block2: Recorded,
     // The body of Handed, or the chunk of Served, Whole and First.
     pub part: Part,
     // The head of Served.

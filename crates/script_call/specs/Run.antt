@@ -2,7 +2,7 @@
 use Prim.Native.Nat.{ℕ}
 use mathlib.Core.Path.{_≡_}
 use mathlib.Core.List.{List}
-use Rattle.block_state.specs.declared.Config.{Config}
+use Rattle.config.specs.declared.Config.{Config}
 use Rattle.block_handler.specs.Call.{World, Done, call}
 use Rattle.block_handler.specs.Contract.{requestCall, responseCall}
 use Rattle.script.specs.Line.{Said, request, response, unreadable}

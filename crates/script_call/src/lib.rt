@@ -1,7 +1,7 @@
 // The call that a line says, made and printed.
 use block_handler::Outcome;
-use block_state::Config;
 use block_table::Table;
+use config::Config;
 use script::Line;
 use script::Request;
 use script::Response;

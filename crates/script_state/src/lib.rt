@@ -1,6 +1,6 @@
 // Where a script stands, and what a program does around its lines: the start, the count, the output that waits.
-use block_state::Config;
 use block_table::Table;
+use config::Config;
 ghost use mathlib.Core.Path.{_≡_};
 ghost use Prim.Native.Nat.{_+_, _%_, _^_, _≤_};
 ghost use mathlib.Core.Bool.{cond};

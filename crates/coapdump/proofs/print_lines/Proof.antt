@@ -14,14 +14,8 @@ Inv-loop number text bytes₀ out₀ count₀ from₀ end₀ bytes out count fro
 abbrev μ-loop : tie.MeasureT-loop
 μ-loop number text bytes₀ out₀ count₀ from₀ end₀ bytes out count from end = length text - from
 
-mark-from-requires : tie.Need-mark-from-requires Inv-loop μ-loop
-mark-from-requires c κs = search needs
-
 loop-holds : tie.Need-loop-holds Inv-loop μ-loop
 loop-holds c = (refl, refl, going-start (c .before .before .before .before .args .number) (c .before .before .before .before .args .text .now) _ (omega (arith, c .before .before .before .before .fits .number)) (c .mark-from .ensures))
-
-wrapping-add-u64-requires : tie.Need-wrapping-add-u64-requires Inv-loop μ-loop
-wrapping-add-u64-requires c κs = search needs
 
 sub-print-line : tie.Need-sub-print-line Inv-loop μ-loop
 sub-print-line c = omega (arith, c .before .before .loop .inv .2 .up-to .after)
@@ -47,12 +41,6 @@ loop-less c = omega (arith, c .before .before .before .before .before .before .b
 loop-again : tie.Need-loop-again Inv-loop μ-loop
 loop-again c = (omega (arith, c .before .before .before .before .before .print-line .kept, c .before .before .before .before .before .before .before .before .before .before .before .loop .inv .0), omega (arith, c .before .before .before .before .before .print-line .kept, c .before .before .before .before .before .before .before .before .before .before .before .loop .inv .1), going-on (c .before .before .before .before .before .before .before .before .before .before .before .loop .inv .2) (c .before .before .before .before .before .before .before .before .before .before .loop-test .taken) _ _ (c .before .before .before .before .before .before .before .before .before .wrapping-add-u64 .ensures) (c .mark-from2 .ensures))
 
-same-length : tie.Need-same-length Inv-loop μ-loop
-same-length c = search needs
-
-same-length-2 : tie.Need-same-length-2 Inv-loop μ-loop
-same-length-2 c = search needs
-
 returns : tie.Need-returns Inv-loop μ-loop
 returns c = going-done (c .before .loop .inv .2) (c .loop-test .left)
 
@@ -62,9 +50,9 @@ print-lines-spec =
     (tie.spec
     Inv-loop
     μ-loop
-    mark-from-requires
+    (λ c κs. search needs)
     loop-holds
-    wrapping-add-u64-requires
+    (λ c κs. search needs)
     sub-print-line
     part-print-line-start
     part-print-line-end
@@ -73,6 +61,6 @@ print-lines-spec =
     mark-from-requires-2
     loop-less
     loop-again
-    same-length
-    same-length-2
+    (λ c. search needs)
+    (λ c. search needs)
     returns)

@@ -13,29 +13,8 @@ Inv-loop text₀ bytes₀ out₀ number₀ held₀ end₀ turns₀ text bytes ou
 abbrev μ-loop : tie.MeasureT-loop
 μ-loop text₀ bytes₀ out₀ number₀ held₀ end₀ turns₀ text bytes out number held end turns = turns
 
-slice-aggregate-write-all : tie.Need-slice-aggregate-write-all Inv-loop μ-loop
-slice-aggregate-write-all c = search needs
-
-write-all-requires : tie.Need-write-all-requires Inv-loop μ-loop
-write-all-requires c κs = search needs
-
-read-on-requires : tie.Need-read-on-requires Inv-loop μ-loop
-read-on-requires c κs = search needs
-
-turns-left-requires : tie.Need-turns-left-requires Inv-loop μ-loop
-turns-left-requires c κs = search needs
-
 loop-holds : tie.Need-loop-holds Inv-loop μ-loop
 loop-holds c = (refl, refl, refl, omega arith, omega (arith, c .before .before .before .read-on .ensures .0 .1, c .before .before .before .read-on .kept))
-
-sub-print-lines : tie.Need-sub-print-lines Inv-loop μ-loop
-sub-print-lines c = search needs
-
-part-print-lines-start : tie.Need-part-print-lines-start Inv-loop μ-loop
-part-print-lines-start c = search needs
-
-part-print-lines-end : tie.Need-part-print-lines-end Inv-loop μ-loop
-part-print-lines-end c = search needs
 
 print-lines-requires : tie.Need-print-lines-requires Inv-loop μ-loop
 print-lines-requires c κs = (omega (arith, c .before .before .before .before .before .before .before .before .before .before .before .before .before .before .before .before .pre .1, c .before .before .before .before .before .loop .inv), omega (arith, c .before .before .before .before .before .before .before .before .before .before .before .before .before .before .before .before .pre .1, c .before .before .before .before .before .loop .inv))
@@ -57,12 +36,6 @@ loop-less c = c .turns-left2 .ensures .1
 loop-again : tie.Need-loop-again Inv-loop μ-loop
 loop-again c = (omega (arith, c .before .before .before .before .before .before .before .keep .kept, c .before .before .before .read-on2 .kept, c .before .before .before .before .before .before .before .before .before .before .before .before .before .before .before .before .before .before .before .loop .inv .0), omega (arith, c .before .before .before .before .before .before .before .before .before .before .before .before .before .print-lines .kept, c .before .before .before .before .before .before .before .before .before .before .before .before .before .before .before .before .before .before .before .loop .inv .1), omega (arith, c .before .before .before .before .before .before .before .before .before .before .before .before .before .print-lines .kept, c .before .before .before .before .before .before .before .before .before .before .before .before .before .before .before .before .before .before .before .loop .inv .2), omega (arith, c .before .before .before .before .before .before .before .keep .ensures .0), omega (arith, c .before .before .before .read-on2 .ensures .0 .1, c .before .before .before .read-on2 .kept))
 
-sub-print-last : tie.Need-sub-print-last Inv-loop μ-loop
-sub-print-last c = search needs
-
-part-print-last-start : tie.Need-part-print-last-start Inv-loop μ-loop
-part-print-last-start c = search needs
-
 part-print-last-end : tie.Need-part-print-last-end Inv-loop μ-loop
 part-print-last-end c = omega (arith, c .before .before .before .before .before .before .before .before .before .before .before .before .before .pre .0, c .before .before .loop .inv .0, c .before .before .loop .inv .3, c .before .before .before .before .before .before .read-on .kept)
 
@@ -78,34 +51,31 @@ same-length-2 c = omega (arith, c .before .before .before .before .print-last .k
 same-length-3 : tie.Need-same-length-3 Inv-loop μ-loop
 same-length-3 c = omega (arith, c .before .before .before .before .print-last .kept, c .before .before .before .before .before .before .before .before .before .before .loop .inv .2)
 
-returns : tie.Need-returns Inv-loop μ-loop
-returns c = search needs
-
 pub run-spec : {M : Type 1} → statement M
 run-spec =
     tie.close
     (tie.spec
     Inv-loop
     μ-loop
-    slice-aggregate-write-all
-    write-all-requires
-    read-on-requires
-    turns-left-requires
+    (λ c. search needs)
+    (λ c κs. search needs)
+    (λ c κs. search needs)
+    (λ c κs. search needs)
     loop-holds
-    sub-print-lines
-    part-print-lines-start
-    part-print-lines-end
+    (λ c. search needs)
+    (λ c. search needs)
+    (λ c. search needs)
     print-lines-requires
     keep-requires
     read-on-requires-2
     turns-left-requires-2
     loop-less
     loop-again
-    sub-print-last
-    part-print-last-start
+    (λ c. search needs)
+    (λ c. search needs)
     part-print-last-end
     print-last-requires
     same-length
     same-length-2
     same-length-3
-    returns)
+    (λ c. search needs))

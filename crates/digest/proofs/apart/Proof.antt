@@ -17,24 +17,6 @@ abbrev μ-loop : tie.MeasureT-loop
 loop-holds : tie.Need-loop-holds Inv-loop μ-loop
 loop-holds c = (search needs, (search needs, (search needs, omega arith)))
 
-mul-d : tie.Need-mul-d Inv-loop μ-loop
-mul-d c = search needs
-
-array-read-d : tie.Need-array-read-d Inv-loop μ-loop
-array-read-d c = search needs
-
-count-requires : tie.Need-count-requires Inv-loop μ-loop
-count-requires c κs = search needs
-
-add-n : tie.Need-add-n Inv-loop μ-loop
-add-n c = search needs
-
-add-i : tie.Need-add-i Inv-loop μ-loop
-add-i c = search needs
-
-loop-less : tie.Need-loop-less Inv-loop μ-loop
-loop-less c = search needs
-
 loop-again : tie.Need-loop-again Inv-loop μ-loop
 loop-again c =
     let l = c .before .before in
@@ -46,4 +28,4 @@ returns c =
     rw (sym (pairs-end (l .before .args .t1) (l .before .args .t1) (l .loop .i) (l .loop .n) _ (omega arith) (l .loop .inv .1 .1 .1)))
 
 pub apart-spec : {M : Type 1} → statement M
-apart-spec = tie.close (tie.spec Inv-loop μ-loop loop-holds mul-d array-read-d count-requires add-n add-i loop-less loop-again returns)
+apart-spec = tie.close (tie.spec Inv-loop μ-loop loop-holds (λ c. search needs) (λ c. search needs) (λ c κs. search needs) (λ c. search needs) (λ c. search needs) (λ c. search needs) loop-again returns)

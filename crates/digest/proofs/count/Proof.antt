@@ -17,24 +17,6 @@ abbrev μ-loop : tie.MeasureT-loop
 loop-holds : tie.Need-loop-holds Inv-loop μ-loop
 loop-holds c = (search needs, (search needs, (search needs, omega arith)))
 
-mul-one : tie.Need-mul-one Inv-loop μ-loop
-mul-one c = search needs
-
-array-read-one : tie.Need-array-read-one Inv-loop μ-loop
-array-read-one c = search needs
-
-one-requires : tie.Need-one-requires Inv-loop μ-loop
-one-requires c κs = search needs
-
-add-n : tie.Need-add-n Inv-loop μ-loop
-add-n c = search needs
-
-add-i : tie.Need-add-i Inv-loop μ-loop
-add-i c = search needs
-
-loop-less : tie.Need-loop-less Inv-loop μ-loop
-loop-less c = search needs
-
 loop-again : tie.Need-loop-again Inv-loop μ-loop
 loop-again c =
     let l = c .before .before in
@@ -46,4 +28,4 @@ returns c =
     (times-end (l .before .args .d) (l .before .args .t2) (l .loop .i) (l .loop .n) _ (omega arith) (l .loop .inv .1 .1 .1), search needs)
 
 pub count-spec : {M : Type 1} → statement M
-count-spec = tie.close (tie.spec Inv-loop μ-loop loop-holds mul-one array-read-one one-requires add-n add-i loop-less loop-again returns)
+count-spec = tie.close (tie.spec Inv-loop μ-loop loop-holds (λ c. search needs) (λ c. search needs) (λ c κs. search needs) (λ c. search needs) (λ c. search needs) (λ c. search needs) loop-again returns)

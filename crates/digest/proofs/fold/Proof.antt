@@ -3,12 +3,9 @@ use borrow.Author.Needs.{needs}
 use Rattle.digest.proofs.fold.Statement.{statement}
 use Rattle.digest.proofs.fold.Tie as tie
 
-mixed-requires : tie.Need-mixed-requires
-mixed-requires c κs = search needs
-
 returns : tie.Need-returns
 unfolding folded
 returns c = c .mixed .ensures
 
 pub fold-spec : {M : Type 1} → statement M
-fold-spec = tie.close (tie.spec mixed-requires returns)
+fold-spec = tie.close (tie.spec (λ c κs. search needs) returns)

@@ -16,21 +16,6 @@ abbrev μ-loop : tie.MeasureT-loop
 loop-holds : tie.Need-loop-holds Inv-loop μ-loop
 loop-holds c = (c .pre, (search needs, refl))
 
-mul-word : tie.Need-mul-word Inv-loop μ-loop
-mul-word c = search needs
-
-word-requires : tie.Need-word-requires Inv-loop μ-loop
-word-requires c κs = search needs
-
-stir-requires : tie.Need-stir-requires Inv-loop μ-loop
-stir-requires c κs = search needs
-
-add-j : tie.Need-add-j Inv-loop μ-loop
-add-j c = search needs
-
-loop-less : tie.Need-loop-less Inv-loop μ-loop
-loop-less c = search needs
-
 loop-again : tie.Need-loop-again Inv-loop μ-loop
 loop-again c = (search needs, (search needs, rw (add-one, c .stir .ensures, c .before .word .ensures .is, c .before .before .before .loop .inv .1 .1)))
 
@@ -38,4 +23,4 @@ returns : tie.Need-returns Inv-loop μ-loop
 returns c = let e : c .before .loop .j ≡ c .before .before .args .words = omega arith in c .before .loop .inv .1 .1 ∙ rw e
 
 pub whole-spec : {M : Type 1} → statement M
-whole-spec = tie.close (tie.spec Inv-loop μ-loop loop-holds mul-word word-requires stir-requires add-j loop-less loop-again returns)
+whole-spec = tie.close (tie.spec Inv-loop μ-loop loop-holds (λ c. search needs) (λ c κs. search needs) (λ c κs. search needs) (λ c. search needs) (λ c. search needs) loop-again returns)

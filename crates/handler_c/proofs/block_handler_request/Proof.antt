@@ -49,9 +49,9 @@ use Rattle.handler_c.specs.Contract.{Replies}
 use Rattle.block_table.specs.declared.Table.{Table}
 use Rattle.block_table.proofs.Table as T
 use Rattle.block_table.proofs.Table.Laws as T′
-use Rattle.block_state.specs.declared.Config.{Config}
-use Rattle.block_state.proofs.Config as K
-use Rattle.block_state.proofs.Config.Laws as K′
+use Rattle.config.specs.declared.Config.{Config}
+use Rattle.config.proofs.Config as K
+use Rattle.config.proofs.Config.Laws as K′
 use Rattle.replies.specs.declared.Reply.{Reply}
 use Rattle.replies.proofs.Reply as S
 use Rattle.replies.proofs.Reply.Laws as S′

@@ -4,35 +4,26 @@ use borrow.Author.Needs.{needs}
 use Rattle.message_c.proofs.block_handler_nth_option.Statement.{statement}
 use Rattle.message_c.proofs.block_handler_nth_option.Tie as tie
 
-nth-option-requires : tie.Need-nth-option-requires
-nth-option-requires c κs = search needs
-
-enum-known-value : tie.Need-enum-known-value
-enum-known-value c = search needs
-
-option-at-requires : tie.Need-option-at-requires
-option-at-requires c κs = search needs
-
-enum-told : tie.Need-enum-told
-enum-told c = search needs
-
-no-option-requires : tie.Need-no-option-requires
-no-option-requires c κs = search needs
-
 returns : tie.Need-returns
-returns c = c .option-at .ensures ∙ ap (optionFound (c .before .before .before .before .before .before .args .number)) (sym (c .before .before .value .given .1) ∙ c .before .before .before .before .nth-option .ensures)
+returns c =
+    let value = c .before .before in
+    let asked = value .before .before in
+    c .option-at .ensures ∙ ap (optionFound (asked .before .before .args .number)) (sym (value .value .given .1) ∙ asked .nth-option .ensures)
 
 returns-2 : tie.Need-returns-2
-returns-2 c = c .no-option .ensures ∙ ap (optionFound (c .before .before .before .before .before .args .number)) (sym (c .before .enum-told .given .1) ∙ c .before .before .before .nth-option .ensures)
+returns-2 c =
+    let absent = c .before in
+    let asked = absent .before .before in
+    c .no-option .ensures ∙ ap (optionFound (asked .before .before .args .number)) (sym (absent .enum-told .given .1) ∙ asked .nth-option .ensures)
 
 pub block-handler-nth-option-spec : {M : Type 1} → statement M
 block-handler-nth-option-spec =
     tie.close
     (tie.spec
-    nth-option-requires
-    enum-known-value
-    option-at-requires
-    enum-told
-    no-option-requires
+    (λ c κs. search needs)
+    (λ c. search needs)
+    (λ c κs. search needs)
+    (λ c. search needs)
+    (λ c κs. search needs)
     returns
     returns-2)

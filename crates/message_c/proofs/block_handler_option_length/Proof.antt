@@ -4,18 +4,6 @@ use borrow.Author.Needs.{needs}
 use Rattle.message_c.proofs.block_handler_option_length.Statement.{statement}
 use Rattle.message_c.proofs.block_handler_option_length.Tie as tie
 
-length-allowed-requires : tie.Need-length-allowed-requires
-length-allowed-requires c κs = search needs
-
-enum-told : tie.Need-enum-told
-enum-told c = search needs
-
-enum-told-2 : tie.Need-enum-told-2
-enum-told-2 c = search needs
-
-enum-told-3 : tie.Need-enum-told-3
-enum-told-3 c = search needs
-
 returns : tie.Need-returns
 returns c = ap lengthNumber (sym (c .enum-told .given .1) ∙ c .before .before .length-allowed .ensures)
 
@@ -29,10 +17,10 @@ pub block-handler-option-length-spec : {M : Type 1} → statement M
 block-handler-option-length-spec =
     tie.close
     (tie.spec
-    length-allowed-requires
-    enum-told
-    enum-told-2
-    enum-told-3
+    (λ c κs. search needs)
+    (λ c. search needs)
+    (λ c. search needs)
+    (λ c. search needs)
     returns
     returns-2
     returns-3)

@@ -2,11 +2,8 @@ use borrow.Author.Needs.{needs}
 use Rattle.message_c.proofs.read.Statement.{statement}
 use Rattle.message_c.proofs.read.Tie as tie
 
-bare-requires : tie.Need-bare-requires
-bare-requires c κs = search needs
-
 returns : tie.Need-returns
 returns c = rw (c .bare .ensures)
 
 pub read-spec : {M : Type 1} → statement M
-read-spec = tie.close (tie.spec bare-requires returns)
+read-spec = tie.close (tie.spec (λ c κs. search needs) returns)

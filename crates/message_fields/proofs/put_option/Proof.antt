@@ -6,18 +6,6 @@ use Rattle.message_fields.proofs.Laws.{option-length}
 use Rattle.message_fields.proofs.put_option.Statement.{statement}
 use Rattle.message_fields.proofs.put_option.Tie as tie
 
-put-decimal-requires : tie.Need-put-decimal-requires
-put-decimal-requires c κs = search needs
-
-put-byte-requires : tie.Need-put-byte-requires
-put-byte-requires c κs = search needs
-
-put-shown-requires : tie.Need-put-shown-requires
-put-shown-requires c κs = search needs
-
-same-length : tie.Need-same-length
-same-length c = search needs
-
 returns : tie.Need-returns
 unfolding optionText
 returns c =
@@ -27,4 +15,4 @@ returns c =
 pub put-option-spec : {M : Type 1} → statement M
 put-option-spec =
     tie.close
-    (tie.spec put-decimal-requires put-byte-requires put-shown-requires same-length returns)
+    (tie.spec (λ c κs. search needs) (λ c κs. search needs) (λ c κs. search needs) (λ c. search needs) returns)

@@ -4,50 +4,14 @@ use Rattle.message_fields.proofs.Laws.{con, non, ack, rst}
 use Rattle.message_fields.proofs.put_type.Statement.{statement}
 use Rattle.message_fields.proofs.put_type.Tie as tie
 
-slice-aggregate-put : tie.Need-slice-aggregate-put
-slice-aggregate-put c = search needs
-
-put-requires : tie.Need-put-requires
-put-requires c κs = search needs
-
-same-length : tie.Need-same-length
-same-length c = search needs
-
 returns : tie.Need-returns
 returns c = (put-as (c .before .before .put .ensures) (con _ (c .before .before .before .before .before .if1 .taken)), c .before .before .put .ensures .to)
-
-slice-aggregate-put-2 : tie.Need-slice-aggregate-put-2
-slice-aggregate-put-2 c = search needs
-
-put-requires-2 : tie.Need-put-requires-2
-put-requires-2 c κs = search needs
-
-same-length-2 : tie.Need-same-length-2
-same-length-2 c = search needs
 
 returns-2 : tie.Need-returns-2
 returns-2 c = (put-as (c .before .before .put2 .ensures) (non _ (c .before .before .before .before .before .before .if1 .left) (c .before .before .before .before .before .if2 .taken)), c .before .before .put2 .ensures .to)
 
-slice-aggregate-put-3 : tie.Need-slice-aggregate-put-3
-slice-aggregate-put-3 c = search needs
-
-put-requires-3 : tie.Need-put-requires-3
-put-requires-3 c κs = search needs
-
-same-length-3 : tie.Need-same-length-3
-same-length-3 c = search needs
-
 returns-3 : tie.Need-returns-3
 returns-3 c = (put-as (c .before .before .put3 .ensures) (ack _ (c .before .before .before .before .before .before .before .if1 .left) (c .before .before .before .before .before .before .if2 .left) (c .before .before .before .before .before .if3 .taken)), c .before .before .put3 .ensures .to)
-
-slice-aggregate-put-4 : tie.Need-slice-aggregate-put-4
-slice-aggregate-put-4 c = search needs
-
-put-requires-4 : tie.Need-put-requires-4
-put-requires-4 c κs = search needs
-
-same-length-4 : tie.Need-same-length-4
-same-length-4 c = search needs
 
 returns-4 : tie.Need-returns-4
 returns-4 c = (put-as (c .before .before .put4 .ensures) (rst _ (c .before .before .before .before .before .before .before .if1 .left) (c .before .before .before .before .before .before .if2 .left) (c .before .before .before .before .before .if3 .left)), c .before .before .put4 .ensures .to)
@@ -56,19 +20,19 @@ pub put-type-spec : {M : Type 1} → statement M
 put-type-spec =
     tie.close
     (tie.spec
-    slice-aggregate-put
-    put-requires
-    same-length
+    (λ c. search needs)
+    (λ c κs. search needs)
+    (λ c. search needs)
     returns
-    slice-aggregate-put-2
-    put-requires-2
-    same-length-2
+    (λ c. search needs)
+    (λ c κs. search needs)
+    (λ c. search needs)
     returns-2
-    slice-aggregate-put-3
-    put-requires-3
-    same-length-3
+    (λ c. search needs)
+    (λ c κs. search needs)
+    (λ c. search needs)
     returns-3
-    slice-aggregate-put-4
-    put-requires-4
-    same-length-4
+    (λ c. search needs)
+    (λ c κs. search needs)
+    (λ c. search needs)
     returns-4)

@@ -3,70 +3,70 @@ use mathlib.Core.Path.{_≡_, sym, _∙_}
 use lib.ListN.{length}
 use native.Mathlib.Omega.{arith}
 use Rattle.pieces.proofs.Puts.{put-then, put-length}
-use Rattle.message_writer.specs.Writer.{Given, takes}
+use Rattle.message_writer.specs.Writer.{Given, given, takes}
 use Rattle.message_writer.proofs.Taken.{taken, opening-length, writes-taken, writes-refused}
 use borrow.Author.Needs.{needs}
 use Rattle.message_writer.proofs.to_bytes.Statement.{statement}
 use Rattle.message_writer.proofs.to_bytes.Tie as tie
 
-abbrev given : tie.Start → Given
-given s = record {
-  messageType = s .args .message-type;
-  code = s .args .code;
-  messageId = s .args .message-id;
-  token = s .args .token .now;
-  numbers = s .args .numbers .now;
-  lengths = s .args .lengths .now;
-  values = s .args .values .now;
-  payload = s .args .payload .now;
-}
+abbrev asked : tie.Start → Given
+asked s =
+    let args = s .args in
+    given (args .message-type) (args .code) (args .message-id) (args .token .now) (args .numbers .now) (args .lengths .now) (args .values .now) (args .payload .now)
+
+abbrev start : tie.Then1 → tie.Start
+start c = c .before .before .before .before .before .before .before .before
 
 -- what the measure answered
-test : (c : tie.Then1) → takes (length (c .before .before .before .before .before .before .before .before .args .out .now)) (given (c .before .before .before .before .before .before .before .before)) ≡ true
+test : (c : tie.Then1) → takes (length (start c .args .out .now)) (asked (start c)) ≡ true
 test c = sym (c .before .takes .ensures _ (omega arith)) ∙ c .if1 .taken
 
-takes-requires : tie.Need-takes-requires
-takes-requires c κs = search needs
+head-fits : tie.Need-head-requires
+head-fits c κs = let t = taken _ _ (test (c .before)) in search needs
 
-head-requires : tie.Need-head-requires
-head-requires c κs = let t = taken _ _ (test (c .before)) in search needs
-
-options-requires : tie.Need-options-requires
-options-requires c κs =
-    let t = taken _ _ (test (c .before .before .before .before .before)) in
-    let a = c .before .before .before .before .before .before .before .before .before .before .before .before .before .args in
-    let n = opening-length (a .message-type) (a .code) (a .message-id) (a .token .now) in
-    let h = c .before .before .before .head .ensures in
+options-fit : tie.Need-options-requires
+options-fit c κs =
+    let head = c .before .before .before in
+    let measured = head .before .before in
+    let t = taken _ _ (test measured) in
+    let args = start measured .args in
+    let n = opening-length (args .message-type) (args .code) (args .message-id) (args .token .now) in
+    let h = head .head .ensures in
     (t .described, (t .ok, omega (arith, t .small, h .to, put-length h)))
 
-payload-requires : tie.Need-payload-requires
-payload-requires c κs =
-    let t = taken _ _ (test (c .before .before .before .before .before .before .before .before .before)) in
-    let a = c .before .before .before .before .before .before .before .before .before .before .before .before .before .before .before .before .before .args in
-    let n = opening-length (a .message-type) (a .code) (a .message-id) (a .token .now) in
-    let h = c .before .before .before .before .before .before .before .head .ensures in
-    let o = c .before .before .before .options .ensures in
+payload-fits : tie.Need-payload-requires
+payload-fits c κs =
+    let options = c .before .before .before in
+    let head = options .before .before .before .before in
+    let measured = head .before .before in
+    let t = taken _ _ (test measured) in
+    let args = start measured .args in
+    let n = opening-length (args .message-type) (args .code) (args .message-id) (args .token .now) in
+    let h = head .head .ensures in
+    let o = options .options .ensures in
     omega (arith, t .small, h .to, put-length h, o .to, put-length o)
-
-same-length : tie.Need-same-length
-same-length c = search needs
 
 returns : tie.Need-returns
 returns c =
-    writes-taken _ (given (c .before .before .before .before .before .before .before .before .before .before .before .before .before .before .before .before .before .before .before .before)) _ _ (test (c .before .before .before .before .before .before .before .before .before .before .before .before))
-    (put-then (c .before .before .before .before .before .before .before .before .before .before .head .ensures) (put-then (c .before .before .before .before .before .before .options .ensures) (c .before .before .payload .ensures)))
+    let payload = c .before .before in
+    let options = payload .before .before .before .before in
+    let head = options .before .before .before .before in
+    let measured = head .before .before in
+    writes-taken _ (asked (start measured)) _ _ (test measured) (put-then (head .head .ensures) (put-then (options .options .ensures) (payload .payload .ensures)))
 
 returns-2 : tie.Need-returns-2
-returns-2 c = writes-refused _ (given (c .before .before .before .before .before .before .before .before)) (sym (c .before .takes .ensures _ (omega arith)) ∙ c .if1 .left)
+returns-2 c =
+    let start = c .before .before .before .before .before .before .before .before in
+    writes-refused _ (asked start) (sym (c .before .takes .ensures _ (omega arith)) ∙ c .if1 .left)
 
 pub to-bytes-spec : {M : Type 1} → statement M
 to-bytes-spec =
     tie.close
     (tie.spec
-    takes-requires
-    head-requires
-    options-requires
-    payload-requires
-    same-length
+    (λ c κs. search needs)
+    head-fits
+    options-fit
+    payload-fits
+    (λ c. search needs)
     returns
     returns-2)

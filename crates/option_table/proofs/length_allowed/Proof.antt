@@ -23,25 +23,10 @@ Inv-loop n len array least most i₀ i =
 abbrev μ-loop : tie.MeasureT-loop
 μ-loop n len array least most i₀ i = 19 - i
 
-all-columns-requires : tie.Need-all-columns-requires Inv-loop μ-loop
-all-columns-requires c κs = search needs
-
 loop-holds : tie.Need-loop-holds Inv-loop μ-loop
 loop-holds c =
     let e = c .before .before .before .all-columns .ensures in
     (search needs, below-none _, ap (λ (t : Columns). t .numbers) e, ap (λ (t : Columns). t .least) e, ap (λ (t : Columns). t .most) e)
-
-mul-if1 : tie.Need-mul-if1 Inv-loop μ-loop
-mul-if1 c = search needs
-
-array-read-if1 : tie.Need-array-read-if1 Inv-loop μ-loop
-array-read-if1 c = search needs
-
-add-i : tie.Need-add-i Inv-loop μ-loop
-add-i c = search needs
-
-loop-less : tie.Need-loop-less Inv-loop μ-loop
-loop-less c = search needs
 
 loop-again : tie.Need-loop-again Inv-loop μ-loop
 loop-again c =
@@ -53,12 +38,6 @@ returns : tie.Need-returns Inv-loop μ-loop
 unfolding allowedOf
 returns c = sym (missing table _ _ (not-there _ _ (c .before .before .loop .inv .1) (λ h. absurd (omega arith))))
 
-mul-if3 : tie.Need-mul-if3 Inv-loop μ-loop
-mul-if3 c = search needs
-
-array-read-if3 : tie.Need-array-read-if3 Inv-loop μ-loop
-array-read-if3 c = search needs
-
 returns-2 : tie.Need-returns-2 Inv-loop μ-loop
 unfolding allowedOf
 returns-2 c =
@@ -68,21 +47,6 @@ returns-2 c =
     (missing table _ _
     (not-there _ _ (loop .inv .1)
     (λ h. ⊎-elim (λ w. omega (arith, ltb-false, here)) (λ w. absurd (omega arith)) (c .before .before .loop-test .came))))
-
-mul-within : tie.Need-mul-within Inv-loop μ-loop
-mul-within c = search needs
-
-array-read-within : tie.Need-array-read-within Inv-loop μ-loop
-array-read-within c = search needs
-
-mul-within-2 : tie.Need-mul-within-2 Inv-loop μ-loop
-mul-within-2 c = search needs
-
-array-read-within-2 : tie.Need-array-read-within-2 Inv-loop μ-loop
-array-read-within-2 c = search needs
-
-within-requires : tie.Need-within-requires Inv-loop μ-loop
-within-requires c κs = search needs
 
 returns-3 : tie.Need-returns-3 Inv-loop μ-loop
 unfolding allowedOf
@@ -98,20 +62,20 @@ length-allowed-spec =
     (tie.spec
     Inv-loop
     μ-loop
-    all-columns-requires
+    (λ c κs. search needs)
     loop-holds
-    mul-if1
-    array-read-if1
-    add-i
-    loop-less
+    (λ c. search needs)
+    (λ c. search needs)
+    (λ c. search needs)
+    (λ c. search needs)
     loop-again
     returns
-    mul-if3
-    array-read-if3
+    (λ c. search needs)
+    (λ c. search needs)
     returns-2
-    mul-within
-    array-read-within
-    mul-within-2
-    array-read-within-2
-    within-requires
+    (λ c. search needs)
+    (λ c. search needs)
+    (λ c. search needs)
+    (λ c. search needs)
+    (λ c κs. search needs)
     returns-3)

@@ -1,78 +1,86 @@
-use mathlib.Core.Path.{_≡_, _∙_}
-use Prim.Native.Nat.{_≤_}
+use mathlib.Core.Path.{_≡_, refl, _∙_}
+use Prim.Native.Nat.{ℕ, _≤_}
 use native.Mathlib.Omega.{arith}
 use lib.ListN.{length}
 use Rattle.block_table.specs.declared.Table.{Table}
 use Rattle.block_table.specs.Table.{sweep}
 use Rattle.places.specs.Places.{opened}
-use Rattle.judge.specs.Verdict.{HasPlace}
-use Rattle.judge.proofs.Judged.{AtPlace, at-place, seen-entry, seen-freed}
-use Rattle.block_handler.proofs.Meanings.{opened-swept, after, lent-piece, lent-length, lent-back, request-left}
+use Rattle.judge.specs.Verdict.{lengths, HasPlace}
+use Rattle.judge.proofs.Judged.{AtPlace, at-place}
+use Rattle.block_handler.proofs.Meanings.{opened-at, changed-at, lent-piece, lent-length, lent-back, asked-left}
 use borrow.Author.Needs.{needs}
 use Rattle.block_handler.proofs.calls.request_at.Statement.{statement}
 use Rattle.block_handler.proofs.calls.request_at.Tie as tie
 
 -- what the verdict tells
-placed : (c : tie.Start) → AtPlace (c .args .config) (c .pre .0) (length (c .args .upload .now)) (c .args .v) (c .args .time) (c .args .key .now) 0 (c .args .i)
-placed c = at-place _ _ _ _ _ _ _ _ _ _ (c .pre .1 .1)
+placed : (c : tie.Start) → let a = c .args in
+    AtPlace (a .config) (c .pre .1) (a .asked .time) (a .key .now) (lengths (length (a .upload .now)) (c .pre .0) (a .asked .bare) (length (a .payload .now)) 0) (a .i)
+placed c = at-place _ _ _ _ _ _ (c .pre .2 .1)
 
 -- the entry that the step starts from
-entry-is : (c : tie.After-start-from) → let a = c .before .before .before .before .before .before .before .before .args in (t : Table) → HasPlace (a .config) (a .sight) (length (a .upload .now)) (a .v) (a .time) (a .key .now) (a .bare) (length (a .payload .now)) 0 (a .i) t
-    → c .start-from .result ≡ opened (a .key .now) (sweep (a .config .lifetime) (a .time) (t .entries))
-entry-is c t has =
-    c .start-from .ensures
-    ∙ rw (c .before .swept-entry .ensures, seen-entry _ _ _ _ _ _ _ _ _ _ t has) (opened-swept _ _ _ _ _ (at-place _ t _ _ _ _ _ _ _ _ (has .1) .is))
+entry-is : (c : tie.After-opened-entry) → let a = c .before .before .before .before .args in (v : ℕ) (t : Table)
+    → HasPlace (a .config) (a .sight) (a .asked .time) (a .key .now) (lengths (length (a .upload .now)) v (a .asked .bare) (length (a .payload .now)) 0) (a .i) t
+    → c .opened-entry .result ≡ opened (a .key .now) (sweep (a .config .lifetime) (a .asked .time) (t .entries))
+entry-is c v t has = c .opened-entry .ensures ∙ opened-at _ _ _ _ _ _ t has
 
 -- its piece holds what is assembled
-holds : (c : tie.After-start-from) → let s = c .before .before .before .before .before .before .before .before in c .start-from .result .state .assembled .len ≤ s .args .config .upload
-holds c = let s = c .before .before .before .before .before .before .before .before in rw (entry-is c (s .pre .0) (s .pre .1)) (placed s .holds (s .pre .1 .0 .1))
+holds : (c : tie.After-opened-entry) → let s = c .before .before .before .before in c .opened-entry .result .state .assembled .len ≤ s .args .config .upload
+holds c = let s = c .before .before .before .before in rw (entry-is c (s .pre .0) (s .pre .1) (s .pre .2)) (placed s .holds (s .pre .2 .0 .1))
 
-start-from-requires : tie.Need-start-from-requires
-start-from-requires c κs = placed (c .before .before .before .before .before .before .before) .named
+opened-entry-requires : tie.Need-opened-entry-requires
+opened-entry-requires c κs = placed (c .before .before .before) .named
 
 mul-home : tie.Need-mul-home
-mul-home c = omega (arith, placed (c .before .before .before .before .before .before .before .before .before .before))
+mul-home c = omega (arith, placed (c .before .before .before .before .before .before))
 
 mul-away : tie.Need-mul-away
-mul-away c = omega (arith, placed (c .before .before .before .before .before .before .before .before .before .before .before))
+mul-away c = omega (arith, placed (c .before .before .before .before .before .before .before))
 
 add-end : tie.Need-add-end
-add-end c = omega (arith, placed (c .before .before .before .before .before .before .before .before .before .before .before .before))
+add-end c = omega (arith, placed (c .before .before .before .before .before .before .before .before))
 
-part-step-request-end : tie.Need-part-step-request-end
-part-step-request-end c = omega (arith, placed (c .before .before .before .before .before .before .before .before .before .before .before .before))
+part-ends : tie.Need-part-step-request-end
+part-ends c = omega (arith, placed (c .before .before .before .before .before .before .before .before))
 
 step-request-requires : tie.Need-step-request-requires
 step-request-requires c κs =
-    let s = c .before .before .before .before .before .before .before .before .before .before .before .before .before in
+    let from = c .before .before .before .before .before in
+    let s = from .before .before .before .before in
     let p = placed s in
     let long = lent-length (s .args .upload .now) (s .args .config .upload) (s .args .i) (p .up) in
-    record { size = long; small = omega arith; holds = rw long (holds (c .before .before .before .before .before)); home = omega arith; away = omega arith }
+    record { size = long; small = omega arith; holds = rw long (holds from); home = omega arith; away = omega arith }
 
 returns : tie.Need-returns
 returns c =
-    let s = c .before .before .before .before .before .before .before .before .before .before .before .before .before .before .before .before .before .before .before in
-    let t = c .before .before .before .before .before .step-request in (
-      (λ w has.
-          let is = entry-is (c .before .before .before .before .before .before .before .before .before .before .before) w has in
-          let p = at-place _ w _ _ _ _ _ _ _ _ (has .1) in
-          let kept = p .kept _ (has .0 .2) (seen-freed _ _ _ _ _ _ _ _ _ _ w has) in
-          λ d. request-left (s .args .config) w (s .args .upload .now) d (s .args .time) _ (s .args .i) _ _ (t .result .state) (t .last .1 .1 .1 .1 .0) _ (t .result .answer) (after _ _ _ _ _ _ (t .result .state) kept (rw is at (c .touched .ensures))) _ (rw (is, lent-piece (s .args .upload .now) (s .args .config .upload) (s .args .i)) at (t .ensures)) (lent-back (s .args .upload .now) (s .args .config .upload) (s .args .i) _ (t .kept .1 .1 .1 .1 .0 ∙ lent-length (s .args .upload .now) (s .args .config .upload) (s .args .i) (p .up)))),
-      search needs,
+    let stepped = c .before .before .before .before in
+    let from = stepped .before .before .before .before .before .before in
+    let a = from .before .before .before .before .args in
+    let g = stepped .step-request in
+    let m = a .upload .now in
+    let n = a .config .upload in (
+      (λ v t has d.
+          let is = entry-is from v t has in
+          let p = at-place _ t _ _ _ _ (has .1) in
+          let row = sweep (a .config .lifetime) (a .asked .time) (t .entries) in
+          rw (c .leave .ensures)
+          (asked-left (a .config) t m d (a .asked .time) row (a .i) (opened (a .key .now) row) _ (g .result .state) (g .last .1 .1 .1 .1 .0) _ (g .result .answer)
+          (rw is (changed-at _ _ _ _ _ _ t has _ (g .result))) (a .asked) (a .payload .now) refl
+          (rw (is, lent-piece m n (a .i)) at (g .ensures))
+          (lent-back m n (a .i) _ (g .kept .1 .1 .1 .1 .0 ∙ lent-length m n (a .i) (p .up))))),
+      rw (c .leave .ensures) refl,
     )
 
 pub request-at-spec : {M : Type 1} → statement M
 request-at-spec =
     tie.close
     (tie.spec
-    (λ c κs. search needs)
-    start-from-requires
+    opened-entry-requires
     mul-home
     mul-away
     add-end
     (λ c. search needs)
     (λ c. search needs)
-    part-step-request-end
+    part-ends
     step-request-requires
     (λ c κs. search needs)
     (λ c. search needs)

@@ -1,28 +1,46 @@
-use mathlib.Core.Path.{sym, _∙_}
+use mathlib.Core.Path.{refl, sym, _∙_}
+use lib.ListN.{length}
 use Rattle.judge.proofs.Judged.{at-place, verdict-seen}
-use Rattle.block_handler.proofs.Meanings.{call-by, request-ok, refusal, seen-below}
+use Rattle.block_handler.proofs.Meanings.{call-by, request-ok, refusal, seen-below, asked-is}
+use Rattle.block_handler.specs.Contract.{requestCall}
 use borrow.Author.Needs.{needs}
 use Rattle.block_handler.proofs.calls.request_change.Statement.{statement}
 use Rattle.block_handler.proofs.calls.request_change.Tie as tie
 
 request-at-requires : tie.Need-request-at-requires
 request-at-requires c κs =
-    let j = c .before .before .before .before in
-    let sees = j .before .look .ensures in
-    (_, (sees, sym (j .judge .ensures ∙ verdict-seen _ _ _ _ _ _ _ _ _ _ sees) ∙ c .before .before .i .given .1))
+    let read = c .before in
+    let told = read .before .before in
+    let judged = told .before .before in
+    let sees = judged .before .look .ensures in
+    rw (read .read-options .ensures) (_, _, (sees, sym (judged .judge .ensures ∙ verdict-seen _ _ _ _ _ _ sees) ∙ told .i .given .1))
 
 returns : tie.Need-returns
 returns c =
-    let j = c .before .before .before .before in
-    let sees = j .before .look .ensures in
-    (refusal _ _ _ _ (c .refused .ensures .0 _ _ _ _ _ sees) (c .refused .ensures .1) ∙ call-by _ _ _ _ _ _ (request-ok _) _ _ (j .judge .ensures ∙ verdict-seen _ _ _ _ _ _ _ _ _ _ sees) (c .before .before .n .given .1), rw (c .refused .ensures .2) (seen-below _ _ _ _ _ sees))
+    let told = c .before .before in
+    let judged = told .before .before in
+    let sees = judged .before .look .ensures in (
+      refusal _ _ _ _ (c .refused .ensures .0 _ _ _ _ _ sees) (c .refused .ensures .1)
+          ∙ call-by _ _ _ _ _ _ (request-ok _) _ _ (judged .judge .ensures ∙ verdict-seen _ _ _ _ _ _ sees) (told .n .given .1),
+      rw (c .refused .ensures .2) (seen-below _ _ _ _ _ sees),
+    )
 
 returns-2 : tie.Need-returns-2
 returns-2 c =
-    let j = c .before .before .before .before .before .before .before in
-    let sees = j .before .look .ensures in
-    let placed = sym (j .judge .ensures ∙ verdict-seen _ _ _ _ _ _ _ _ _ _ sees) ∙ c .before .before .before .before .before .i .given .1 in
-    (c .before .before .request-at .ensures .0 _ (sees, placed) (c .before .before .before .before .before .before .before .before .before .before .before .before .before .before .before .args .response .now) ∙ call-by _ _ _ _ _ _ (request-ok _) _ _ (j .judge .ensures ∙ verdict-seen _ _ _ _ _ _ _ _ _ _ sees) (c .before .before .before .before .before .i .given .1), rw (c .before .before .request-at .ensures .1) (at-place _ _ _ _ _ _ _ _ _ _ placed .below))
+    let at = c .before .before in
+    let read = at .before .before in
+    let told = read .before .before in
+    let judged = told .before .before in
+    let a = judged .before .before .before .before .before .before .before .before .args in
+    let sees = judged .before .look .ensures in
+    let is = judged .judge .ensures ∙ verdict-seen _ _ _ _ _ _ sees in
+    let placed = sym is ∙ told .i .given .1 in
+    let asked = read .read-options .ensures in (
+      rw asked at (at .request-at .ensures .0 (length (a .response .now)) (a .table) (rw asked (sees, placed)) (a .response .now))
+          ∙ asked-is _ _ _ _ _ (a .numbers) (a .block1 .now) (a .block2 .now) (a .payload .now) _ refl
+          ∙ call-by _ _ (requestCall (a .numbers) (a .key .now) (a .block1 .now) (a .block2 .now) (a .payload .now)) _ _ _ (request-ok _) _ _ is (told .i .given .1),
+      rw (at .request-at .ensures .1) (at-place _ _ _ _ _ _ placed .below),
+    )
 
 pub request-change-spec : {M : Type 1} → statement M
 request-change-spec =
@@ -33,6 +51,7 @@ request-change-spec =
     (λ c. search needs)
     (λ c κs. search needs)
     (λ c. search needs)
+    (λ c κs. search needs)
     request-at-requires
     returns
     (λ c. search needs)

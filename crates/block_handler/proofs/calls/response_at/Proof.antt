@@ -1,69 +1,71 @@
-use mathlib.Core.Path.{_≡_, _∙_}
+use mathlib.Core.Path.{_≡_, refl, _∙_}
+use Prim.Native.Nat.{ℕ}
 use native.Mathlib.Omega.{arith}
 use lib.ListN.{length}
 use Rattle.block_table.specs.declared.Table.{Table}
 use Rattle.block_table.specs.Table.{sweep}
 use Rattle.places.specs.Places.{opened}
-use Rattle.judge.specs.Verdict.{HasPlace}
-use Rattle.judge.proofs.Judged.{AtPlace, at-place, seen-entry, seen-freed}
-use Rattle.block_handler.proofs.Meanings.{opened-swept, after, lent-piece, lent-length, lent-back, response-left}
+use Rattle.judge.specs.Verdict.{lengths}
+use Rattle.judge.proofs.Judged.{AtPlace, at-place}
+use Rattle.block_handler.proofs.Meanings.{opened-at, changed-at, lent-piece, lent-length, lent-back, response-left}
 use borrow.Author.Needs.{needs}
 use Rattle.block_handler.proofs.calls.response_at.Statement.{statement}
 use Rattle.block_handler.proofs.calls.response_at.Tie as tie
 
 -- what the verdict tells
-placed : (c : tie.Start) → AtPlace (c .args .config) (c .pre .0) (c .args .u) (length (c .args .response .now)) (c .args .time) (c .args .key .now) (length (c .args .head .now)) (c .args .i)
-placed c = at-place _ _ _ _ _ _ _ _ _ _ (c .pre .1 .1)
+placed : (c : tie.Start) → let a = c .args in
+    AtPlace (a .config) (c .pre .1) (a .numbers .time) (a .key .now)
+    (lengths (c .pre .0) (length (a .response .now)) (a .numbers .bare) (length (a .payload .now)) (length (a .head .now))) (a .i)
+placed c = at-place _ _ _ _ _ _ (c .pre .2 .1)
 
--- the entry that the step starts from
-entry-is : (c : tie.After-start-from) → let a = c .before .before .before .before .before .before .before .args in (t : Table) → HasPlace (a .config) (a .sight) (a .u) (length (a .response .now)) (a .time) (a .key .now) (a .bare) (length (a .payload .now)) (length (a .head .now)) (a .i) t
-    → c .start-from .result ≡ opened (a .key .now) (sweep (a .config .lifetime) (a .time) (t .entries))
-entry-is c t has =
-    c .start-from .ensures
-    ∙ rw (c .before .swept-entry .ensures, seen-entry _ _ _ _ _ _ _ _ _ _ t has) (opened-swept _ _ _ _ _ (at-place _ t _ _ _ _ _ _ _ _ (has .1) .is))
-
-start-from-requires : tie.Need-start-from-requires
-start-from-requires c κs = placed (c .before .before .before .before .before .before) .named
+opened-entry-requires : tie.Need-opened-entry-requires
+opened-entry-requires c κs = placed (c .before .before .before .before) .named
 
 mul-from : tie.Need-mul-from
-mul-from c = omega (arith, placed (c .before .before .before .before .before .before .before .before .before))
+mul-from c = omega (arith, placed (c .before .before .before .before .before .before .before))
 
 add-end : tie.Need-add-end
-add-end c = omega (arith, placed (c .before .before .before .before .before .before .before .before .before .before))
+add-end c = omega (arith, placed (c .before .before .before .before .before .before .before .before))
 
-part-step-response-end : tie.Need-part-step-response-end
-part-step-response-end c = omega (arith, placed (c .before .before .before .before .before .before .before .before .before .before))
+part-ends : tie.Need-part-step-response-end
+part-ends c = omega (arith, placed (c .before .before .before .before .before .before .before .before))
 
 step-response-requires : tie.Need-step-response-requires
 step-response-requires c κs =
-    let s = c .before .before .before .before .before .before .before .before .before .before .before in
+    let from = c .before .before .before .before in
+    let s = from .before .before .before .before .before in
     let p = placed s in
-    let long = lent-length (s .args .response .now) (s .args .config .response) (s .args .i) (p .down) in
-    (long, omega arith, p .headed)
+    (lent-length (s .args .response .now) (s .args .config .response) (s .args .i) (p .down), omega arith, p .headed)
 
 returns : tie.Need-returns
 returns c =
-    let s = c .before .before .before .before .before .before .before .before .before .before .before .before .before .before .before .before .before in
-    let t = c .before .before .before .before .before .step-response in (
-      (λ w has.
-          let is = entry-is (c .before .before .before .before .before .before .before .before .before .before) w has in
-          let p = at-place _ w _ _ _ _ _ _ _ _ (has .1) in
-          let kept = p .kept _ (has .0 .2) (seen-freed _ _ _ _ _ _ _ _ _ _ w has) in
-          λ m. response-left (s .args .config) w m (s .args .response .now) (s .args .time) _ (s .args .i) _ _ (t .result .state) (t .last .1 .1 .0) _ (t .result .answer) (after _ _ _ _ _ _ (t .result .state) kept (rw is at (c .touched .ensures))) _ (rw (is, lent-piece (s .args .response .now) (s .args .config .response) (s .args .i)) at (t .ensures)) (lent-back (s .args .response .now) (s .args .config .response) (s .args .i) _ (t .kept .1 .1 .0 ∙ lent-length (s .args .response .now) (s .args .config .response) (s .args .i) (p .down)))),
-      search needs,
+    let stepped = c .before .before .before .before in
+    let from = stepped .before .before .before .before .before in
+    let a = from .before .before .before .before .before .args in
+    let g = stepped .step-response in
+    let m = a .response .now in
+    let n = a .config .response in (
+      (λ u t has d.
+          let is = from .opened-entry .ensures ∙ opened-at _ _ _ _ _ _ t has in
+          let p = at-place _ t _ _ _ _ (has .1) in
+          let row = sweep (a .config .lifetime) (a .numbers .time) (t .entries) in
+          rw (c .leave .ensures)
+          (response-left (a .config) t d m (a .numbers .time) row (a .i) (opened (a .key .now) row) _ (g .result .state) (g .last .1 .1 .0) _ (g .result .answer)
+          (rw is (changed-at _ _ _ _ _ _ t has _ (g .result))) _ (rw (is, lent-piece m n (a .i)) at (g .ensures))
+          (lent-back m n (a .i) _ (g .kept .1 .1 .0 ∙ lent-length m n (a .i) (p .down))))),
+      rw (c .leave .ensures) refl,
     )
 
 pub response-at-spec : {M : Type 1} → statement M
 response-at-spec =
     tie.close
     (tie.spec
-    (λ c κs. search needs)
-    start-from-requires
+    opened-entry-requires
     mul-from
     add-end
     (λ c. search needs)
     (λ c. search needs)
-    part-step-response-end
+    part-ends
     step-response-requires
     (λ c κs. search needs)
     (λ c. search needs)

@@ -7,22 +7,33 @@ use Rattle.block_handler.proofs.calls.response_change.Tie as tie
 
 response-at-requires : tie.Need-response-at-requires
 response-at-requires c κs =
-    let j = c .before .before .before .before in
-    let sees = j .before .look .ensures in
-    (_, (sees, sym (j .judge .ensures ∙ verdict-seen _ _ _ _ _ _ _ _ _ _ sees) ∙ c .before .before .i .given .1))
+    let told = c .before .before in
+    let judged = told .before .before in
+    let sees = judged .before .look .ensures in
+    (_, _, (sees, sym (judged .judge .ensures ∙ verdict-seen _ _ _ _ _ _ sees) ∙ told .i .given .1))
 
 returns : tie.Need-returns
 returns c =
-    let j = c .before .before .before .before in
-    let sees = j .before .look .ensures in
-    (refusal _ _ _ _ (c .refused .ensures .0 _ _ _ _ _ sees) (c .refused .ensures .1) ∙ call-by _ _ _ _ _ _ (response-ok _) _ _ (j .judge .ensures ∙ verdict-seen _ _ _ _ _ _ _ _ _ _ sees) (c .before .before .n .given .1), rw (c .refused .ensures .2) (seen-below _ _ _ _ _ sees))
+    let told = c .before .before in
+    let judged = told .before .before in
+    let sees = judged .before .look .ensures in (
+      refusal _ _ _ _ (c .refused .ensures .0 _ _ _ _ _ sees) (c .refused .ensures .1)
+          ∙ call-by _ _ _ _ _ _ (response-ok _) _ _ (judged .judge .ensures ∙ verdict-seen _ _ _ _ _ _ sees) (told .n .given .1),
+      rw (c .refused .ensures .2) (seen-below _ _ _ _ _ sees),
+    )
 
 returns-2 : tie.Need-returns-2
 returns-2 c =
-    let j = c .before .before .before .before .before .before .before in
-    let sees = j .before .look .ensures in
-    let placed = sym (j .judge .ensures ∙ verdict-seen _ _ _ _ _ _ _ _ _ _ sees) ∙ c .before .before .before .before .before .i .given .1 in
-    (c .before .before .response-at .ensures .0 _ (sees, placed) (c .before .before .before .before .before .before .before .before .before .before .before .before .before .before .args .upload .now) ∙ call-by _ _ _ _ _ _ (response-ok _) _ _ (j .judge .ensures ∙ verdict-seen _ _ _ _ _ _ _ _ _ _ sees) (c .before .before .before .before .before .i .given .1), rw (c .before .before .response-at .ensures .1) (at-place _ _ _ _ _ _ _ _ _ _ placed .below))
+    let at = c .before .before in
+    let told = at .before .before .before in
+    let judged = told .before .before in
+    let start = judged .before .before .before .before .before .before .before in
+    let sees = judged .before .look .ensures in
+    let is = judged .judge .ensures ∙ verdict-seen _ _ _ _ _ _ sees in
+    let placed = sym is ∙ told .i .given .1 in (
+      at .response-at .ensures .0 _ _ (sees, placed) (start .args .upload .now) ∙ call-by _ _ _ _ _ _ (response-ok _) _ _ is (told .i .given .1),
+      rw (at .response-at .ensures .1) (at-place _ _ _ _ _ _ placed .below),
+    )
 
 pub response-change-spec : {M : Type 1} → statement M
 response-change-spec =

@@ -3,10 +3,10 @@ use Rattle.message.proofs.reader.is_found.Statement.{statement}
 use Rattle.message.proofs.reader.is_found.Tie as tie
 
 returns : tie.Need-returns
-returns c = rw (eq-eqb (c .before .args .number) (c .before .args .wanted) (c .if1 .taken))
+returns c = rw (eq-eqb _ _ (c .if1 .taken))
 
 returns-2 : tie.Need-returns-2
-returns-2 c = rw (ne-eqb (c .before .args .number) (c .before .args .wanted) (c .if1 .left))
+returns-2 c = rw (ne-eqb _ _ (c .if1 .left))
 
 pub is-found-spec : {M : Type 1} → statement M
 is-found-spec = tie.close (tie.spec returns returns-2)

@@ -19,34 +19,44 @@ Inv-loop message options wanted n at₀ last₀ left₀ at last left = foundFrom
 abbrev μ-loop : tie.MeasureT-loop
 μ-loop message options wanted n at₀ last₀ left₀ at last left = length message - at
 
-loop-holds : tie.Need-loop-holds Inv-loop μ-loop
-loop-holds c = refl
-
-next-option-requires : tie.Need-next-option-requires Inv-loop μ-loop
-next-option-requires c κs = search needs
-
-enum-known-number : tie.Need-enum-known-number Inv-loop μ-loop
-enum-known-number c = search needs
-
 returns : tie.Need-returns Inv-loop μ-loop
-returns c = found-none (c .before .before .before .before .args .message .now) (c .before .before .loop .at) (c .before .before .loop .last) (c .before .before .before .before .args .wanted) (c .before .before .loop .left) (c .before .next-option .result) (c .before .next-option .ensures) (λ number from to e. miss (1 ∷ 2 ∷ []) 0 tt (subst (λ (n : Next). OneOf (1 ∷ 2 ∷ []) (tagOf the-type n)) e (c .match .keys2))) ∙ c .before .before .loop .inv
-
-is-found-requires : tie.Need-is-found-requires Inv-loop μ-loop
-is-found-requires c κs = search needs
+returns c =
+    let asked = c .before in
+    let at-loop = asked .before in
+    let args = at-loop .before .before .args in
+    found-none (args .message .now) (at-loop .loop .at) _ (args .wanted) (at-loop .loop .left) _ (asked .next-option .ensures)
+    (λ number from to e. miss (1 ∷ 2 ∷ []) 0 tt (subst (λ (n : Next). OneOf (1 ∷ 2 ∷ []) (tagOf the-type n)) e (c .match .keys2)))
+    ∙ at-loop .loop .inv
 
 returns-2 : tie.Need-returns-2 Inv-loop μ-loop
-returns-2 c = found-here (c .before .before .before .before .before .before .before .before .args .message .now) (c .before .before .before .before .before .before .loop .at) (c .before .before .before .before .before .before .loop .last) (c .before .before .before .before .before .before .before .before .args .wanted) (c .before .before .before .before .before .before .loop .left) (c .before .before .before .before .before .next-option .result) (c .before .before .before .before .before .next-option .ensures) (c .before .before .before .number .given .0 .0) (c .before .before .before .number .given .0 .1 .0) (c .before .before .before .number .given .0 .1 .1 .0) (c .before .before .before .number .given .1) (sym (c .before .is-found .ensures) ∙ c .if1 .taken) ∙ c .before .before .before .before .before .before .loop .inv
-
-still-before-requires : tie.Need-still-before-requires Inv-loop μ-loop
-still-before-requires c κs = search needs
+returns-2 c =
+    let option = c .before .before .before in
+    let asked = option .before .before in
+    let at-loop = asked .before in
+    let args = at-loop .before .before .args in
+    let is = sym (c .before .is-found .ensures) ∙ c .if1 .taken in
+    found-here (args .message .now) (at-loop .loop .at) _ (args .wanted) (at-loop .loop .left) _ (asked .next-option .ensures) _ _ _ (option .number .given .1) is
+    ∙ at-loop .loop .inv
 
 loop-less : tie.Need-loop-less Inv-loop μ-loop
-loop-less c = let b = found-bounds (c .before .before .before .before .before .before .before .before .before .args .message .now) (c .before .before .before .before .before .before .before .loop .at) (c .before .before .before .before .before .before .before .loop .last) (c .before .before .before .before .before .before .before .before .before .args .wanted) (c .before .before .before .before .before .before .before .loop .left) (c .before .before .before .before .before .before .next-option .result) (c .before .before .before .before .before .before .next-option .ensures) (c .before .before .before .before .number .given .0 .0) (c .before .before .before .before .number .given .0 .1 .0) (c .before .before .before .before .number .given .0 .1 .1 .0) (c .before .before .before .before .number .given .1) in omega (arith, b .starts, b .ends, b .there)
+loop-less c =
+    let option = c .before .before .before .before in
+    let asked = option .before .before in
+    let at-loop = asked .before in
+    let args = at-loop .before .before .args in
+    let b = found-bounds (args .message .now) (at-loop .loop .at) _ (args .wanted) (at-loop .loop .left) _ (asked .next-option .ensures) _ _ _ (option .number .given .1) in
+    omega (arith, b .starts, b .ends, b .there)
 
 loop-again : tie.Need-loop-again Inv-loop μ-loop
 loop-again c =
-    ap (foundFrom (c .before .before .before .before .before .before .before .before .before .args .message .now) (c .before .before .before .before .number .given .0 .1 .1 .0) (c .before .before .before .before .number .given .0 .0) (c .before .before .before .before .before .before .before .before .before .args .wanted)) (c .still-before .ensures)
-    ∙ found-on (c .before .before .before .before .before .before .before .before .before .args .message .now) (c .before .before .before .before .before .before .before .loop .at) (c .before .before .before .before .before .before .before .loop .last) (c .before .before .before .before .before .before .before .before .before .args .wanted) (c .before .before .before .before .before .before .before .loop .left) (c .before .before .before .before .before .before .next-option .result) (c .before .before .before .before .before .before .next-option .ensures) (c .before .before .before .before .number .given .0 .0) (c .before .before .before .before .number .given .0 .1 .0) (c .before .before .before .before .number .given .0 .1 .1 .0) (c .before .before .before .before .number .given .1) (sym (c .before .before .is-found .ensures) ∙ c .before .if1 .left) ∙ c .before .before .before .before .before .before .before .loop .inv
+    let option = c .before .before .before .before in
+    let asked = option .before .before in
+    let at-loop = asked .before in
+    let args = at-loop .before .before .args in
+    let is-not = sym (c .before .before .is-found .ensures) ∙ c .before .if1 .left in
+    ap (foundFrom (args .message .now) (option .number .given .0 .1 .1 .0) (option .number .given .0 .0) (args .wanted)) (c .still-before .ensures)
+    ∙ found-on (args .message .now) (at-loop .loop .at) _ (args .wanted) (at-loop .loop .left) _ (asked .next-option .ensures) _ _ _ (option .number .given .1) is-not
+    ∙ at-loop .loop .inv
 
 pub nth-option-spec : {M : Type 1} → statement M
 nth-option-spec =
@@ -54,12 +64,12 @@ nth-option-spec =
     (tie.spec
     Inv-loop
     μ-loop
-    loop-holds
-    next-option-requires
-    enum-known-number
+    (λ c. refl)
+    (λ c κs. search needs)
+    (λ c. search needs)
     returns
-    is-found-requires
+    (λ c κs. search needs)
     returns-2
-    still-before-requires
+    (λ c κs. search needs)
     loop-less
     loop-again)

@@ -9,56 +9,53 @@ use Rattle.message.proofs.reader.option_in.Statement.{statement}
 use Rattle.message.proofs.reader.option_in.Tie as tie
 
 returns : tie.Need-returns
-returns c = option-delta (c .before .before .args .before) (c .before .before .args .delta) (c .before .before .args .len) (drop 1 (c .before .before .args .bytes .now)) (omega arith)
+returns c =
+    let args = c .before .before .args in
+    option-delta (args .before) (args .delta) (args .len) (drop 1 (args .bytes .now)) (omega arith)
 
 returns-2 : tie.Need-returns-2
-returns-2 c = option-len (c .before .before .before .args .before) (c .before .before .before .args .delta) (c .before .before .before .args .len) (drop 1 (c .before .before .before .args .bytes .now)) (omega arith) (omega arith)
-
-extra-bytes-requires : tie.Need-extra-bytes-requires
-extra-bytes-requires c κs = search needs
-
-add-second : tie.Need-add-second
-add-second c = search needs
-
-extra-bytes-requires-2 : tie.Need-extra-bytes-requires-2
-extra-bytes-requires-2 c κs = search needs
-
-add-from : tie.Need-add-from
-add-from c = search needs
+returns-2 c =
+    let args = c .before .before .before .args in
+    option-len (args .before) (args .delta) (args .len) (drop 1 (args .bytes .now)) (omega arith) (omega arith)
 
 returns-3 : tie.Need-returns-3
-returns-3 c = option-past (c .before .before .before .before .before .before .args .before) (c .before .before .before .before .before .before .args .delta) (c .before .before .before .before .before .before .args .len) (drop 1 (c .before .before .before .before .before .before .args .bytes .now)) (omega arith) (omega arith) (omega (arith, length-drop 1 (c .before .before .before .before .before .before .args .bytes .now)))
-
-extend-requires : tie.Need-extend-requires
-extend-requires c κs = search needs
-
-sub-if4 : tie.Need-sub-if4
-sub-if4 c = search needs
+returns-3 c =
+    let args = c .before .before .before .before .before .before .args in
+    let l = length-drop 1 (args .bytes .now) in
+    option-past (args .before) (args .delta) (args .len) (drop 1 (args .bytes .now)) (omega arith) (omega arith) (omega arith)
 
 returns-4 : tie.Need-returns-4
-returns-4 c = option-past (c .before .before .before .before .before .before .before .before .args .before) (c .before .before .before .before .before .before .before .before .args .delta) (c .before .before .before .before .before .before .before .before .args .len) (drop 1 (c .before .before .before .before .before .before .before .before .args .bytes .now)) (omega arith) (omega arith) (omega (arith, length-drop 1 (c .before .before .before .before .before .before .before .before .args .bytes .now), len-extended (c .before .before .before .before .before .before .before .before .args .delta) (c .before .before .before .before .before .before .before .before .args .len) (c .before .before .before .before .extra-bytes .result) (c .before .extend .result) (c .before .before .before .before .before .before .before .before .args .bytes .now) (c .before .before .before .before .extra-bytes .ensures .0) (c .before .extend .ensures .0)))
-
-extend-requires-2 : tie.Need-extend-requires-2
-extend-requires-2 c κs = search needs
-
-add-number : tie.Need-add-number
-add-number c = search needs
+returns-4 c =
+    let extended = c .before in
+    let second = extended .before .before .before in
+    let args = second .before .before .before .before .args in
+    let l = length-drop 1 (args .bytes .now) in
+    let to = len-extended (args .delta) (args .len) _ _ (args .bytes .now) (second .extra-bytes .ensures .0) (extended .extend .ensures .0) in
+    option-past (args .before) (args .delta) (args .len) (drop 1 (args .bytes .now)) (omega arith) (omega arith) (omega arith)
 
 returns-5 : tie.Need-returns-5
-returns-5 c = option-far (c .before .before .before .before .before .before .before .before .before .before .args .before) (c .before .before .before .before .before .before .before .before .before .before .args .delta) (c .before .before .before .before .before .before .before .before .before .before .args .len) (drop 1 (c .before .before .before .before .before .before .before .before .before .before .args .bytes .now)) (omega arith) (omega arith) (omega (arith, length-drop 1 (c .before .before .before .before .before .before .before .before .before .before .args .bytes .now), len-extended (c .before .before .before .before .before .before .before .before .before .before .args .delta) (c .before .before .before .before .before .before .before .before .before .before .args .len) (c .before .before .before .before .before .before .extra-bytes .result) (c .before .before .before .extend .result) (c .before .before .before .before .before .before .before .before .before .before .args .bytes .now) (c .before .before .before .before .before .before .extra-bytes .ensures .0) (c .before .before .before .extend .ensures .0))) (omega (arith, c .before .extend2 .ensures .0))
-
-cast-t12 : tie.Need-cast-t12
-cast-t12 c = search needs
-
-add-t11 : tie.Need-add-t11
-add-t11 c = search needs
+returns-5 c =
+    let extended = c .before .before .before in
+    let second = extended .before .before .before in
+    let args = second .before .before .before .before .args in
+    let l = length-drop 1 (args .bytes .now) in
+    let to = len-extended (args .delta) (args .len) _ _ (args .bytes .now) (second .extra-bytes .ensures .0) (extended .extend .ensures .0) in
+    option-far (args .before) (args .delta) (args .len) (drop 1 (args .bytes .now)) (omega arith) (omega arith) (omega arith)
+    (omega (arith, c .before .extend2 .ensures .0))
 
 returns-6 : tie.Need-returns-6
 returns-6 c =
-    let length = length-drop 1 (c .before .before .before .before .before .before .before .before .before .before .args .bytes .now) in
-    let to = len-extended (c .before .before .before .before .before .before .before .before .before .before .args .delta) (c .before .before .before .before .before .before .before .before .before .before .args .len) (c .before .before .before .before .before .before .extra-bytes .result) (c .before .before .before .extend .result) (c .before .before .before .before .before .before .before .before .before .before .args .bytes .now) (c .before .before .before .before .before .before .extra-bytes .ensures .0) (c .before .before .before .extend .ensures .0) in
-    (λ i. Option (c .before .before .before .before .before .before .before .before .before .before .args .before + c .before .extend2 .ensures .0 i) (1 + c .before .before .before .before .before .before .extra-bytes .ensures .0 i + c .before .before .before .before .before .extra-bytes2 .ensures .0 i) (1 + c .before .before .before .before .before .before .extra-bytes .ensures .0 i + c .before .before .before .before .before .extra-bytes2 .ensures .0 i + to i))
-    ∙ option-is (c .before .before .before .before .before .before .before .before .before .before .args .before) (c .before .before .before .before .before .before .before .before .before .before .args .delta) (c .before .before .before .before .before .before .before .before .before .before .args .len) (drop 1 (c .before .before .before .before .before .before .before .before .before .before .args .bytes .now)) (omega arith) (omega arith) (omega arith) (omega (arith, c .before .extend2 .ensures .0))
+    let extended = c .before .before .before in
+    let first = extended .before .before in
+    let second = first .before in
+    let args = second .before .before .before .before .args in
+    let l = length-drop 1 (args .bytes .now) in
+    let number-is = c .before .extend2 .ensures .0 in
+    let second-is = second .extra-bytes .ensures .0 in
+    let first-is = first .extra-bytes2 .ensures .0 in
+    let to = len-extended (args .delta) (args .len) _ _ (args .bytes .now) second-is (extended .extend .ensures .0) in
+    (λ i. Option (args .before + number-is i) (1 + second-is i + first-is i) (1 + second-is i + first-is i + to i))
+    ∙ option-is (args .before) (args .delta) (args .len) (drop 1 (args .bytes .now)) (omega arith) (omega arith) (omega arith) (omega (arith, number-is))
 
 pub option-in-spec : {M : Type 1} → statement M
 option-in-spec =
@@ -66,17 +63,17 @@ option-in-spec =
     (tie.spec
     returns
     returns-2
-    extra-bytes-requires
-    add-second
-    extra-bytes-requires-2
-    add-from
+    (λ c κs. search needs)
+    (λ c. search needs)
+    (λ c κs. search needs)
+    (λ c. search needs)
     returns-3
-    extend-requires
-    sub-if4
+    (λ c κs. search needs)
+    (λ c. search needs)
     returns-4
-    extend-requires-2
-    add-number
+    (λ c κs. search needs)
+    (λ c. search needs)
     returns-5
-    cast-t12
-    add-t11
+    (λ c. search needs)
+    (λ c. search needs)
     returns-6)

@@ -10,49 +10,51 @@ use Rattle.message.proofs.reader.options_end.Statement.{statement}
 use Rattle.message.proofs.reader.options_end.Tie as tie
 
 abbrev Inv-loop : tie.InvT-loop
-Inv-loop message start at₀ last₀ at last = (at ≤ length message) × (endsOf (optionsOf last (drop at message)) ≡ endsOf (optionsOf 0 (drop start message)))
+Inv-loop message start at₀ last₀ at last =
+    (at ≤ length message) × (endsOf (optionsOf last (drop at message)) ≡ endsOf (optionsOf 0 (drop start message)))
 
 abbrev μ-loop : tie.MeasureT-loop
 μ-loop message start at₀ last₀ at last = length message - at
 
-loop-holds : tie.Need-loop-holds Inv-loop μ-loop
-loop-holds c = (c .before .pre, refl)
-
-sub-take-options : tie.Need-sub-take-options Inv-loop μ-loop
-sub-take-options c = c .loop .inv .0
-
-part-take-options-start : tie.Need-part-take-options-start Inv-loop μ-loop
-part-take-options-start c = c .loop .inv .0
-
-part-take-options-end : tie.Need-part-take-options-end Inv-loop μ-loop
-part-take-options-end c = search needs
-
-take-options-requires : tie.Need-take-options-requires Inv-loop μ-loop
-take-options-requires c κs = search needs
-
-enum-known-left : tie.Need-enum-known-left Inv-loop μ-loop
-enum-known-left c = search needs
-
-sub-at : tie.Need-sub-at Inv-loop μ-loop
-sub-at c = omega (arith, again (c .before .before .before .before .before .before .before .args .message .now) (c .before .before .before .before .before .loop .at) (c .before .before .before .before .before .loop .last) 32 (c .before .before .before .before .before .loop .inv .0) (c .before .before .before .take-options .result) (c .before .before .before .take-options .ensures) (omega arith) (c .before .left .given .0 .0) (c .before .left .given .0 .1 .0) (c .before .left .given .1) .0)
+left-there : tie.Need-sub-at Inv-loop μ-loop
+left-there c =
+    let more = c .before in
+    let ran = more .before .before in
+    let at-loop = ran .before .before in
+    let message = at-loop .before .before .args .message .now in
+    let run = ran .take-options .ensures in
+    omega (arith, again message (at-loop .loop .at) _ 32 (at-loop .loop .inv .0) _ run (omega arith) _ _ (more .left .given .1) .0)
 
 loop-less : tie.Need-loop-less Inv-loop μ-loop
-loop-less c = omega (arith, again (c .before .before .before .before .before .before .before .args .message .now) (c .before .before .before .before .before .loop .at) (c .before .before .before .before .before .loop .last) 32 (c .before .before .before .before .before .loop .inv .0) (c .before .before .before .take-options .result) (c .before .before .before .take-options .ensures) (omega arith) (c .before .left .given .0 .0) (c .before .left .given .0 .1 .0) (c .before .left .given .1) .0)
+loop-less c =
+    let more = c .before in
+    let ran = more .before .before in
+    let at-loop = ran .before .before in
+    let message = at-loop .before .before .args .message .now in
+    let run = ran .take-options .ensures in
+    omega (arith, again message (at-loop .loop .at) _ 32 (at-loop .loop .inv .0) _ run (omega arith) _ _ (more .left .given .1) .0)
 
 loop-again : tie.Need-loop-again Inv-loop μ-loop
-loop-again c = let a = again (c .before .before .before .before .before .before .before .args .message .now) (c .before .before .before .before .before .loop .at) (c .before .before .before .before .before .loop .last) 32 (c .before .before .before .before .before .loop .inv .0) (c .before .before .before .take-options .result) (c .before .before .before .take-options .ensures) (omega arith) (c .before .left .given .0 .0) (c .before .left .given .0 .1 .0) (c .before .left .given .1) in (omega arith, a .1 ∙ c .before .before .before .before .before .loop .inv .1)
-
-enum-known-left-2 : tie.Need-enum-known-left-2 Inv-loop μ-loop
-enum-known-left-2 c = search needs
+loop-again c =
+    let more = c .before in
+    let ran = more .before .before in
+    let at-loop = ran .before .before in
+    let message = at-loop .before .before .args .message .now in
+    let run = ran .take-options .ensures in
+    let a = again message (at-loop .loop .at) _ 32 (at-loop .loop .inv .0) _ run (omega arith) _ _ (more .left .given .1) in
+    (omega arith, a .1 ∙ at-loop .loop .inv .1)
 
 returns : tie.Need-returns Inv-loop μ-loop
-returns c = at-end (c .before .before .before .before .before .before .before .args .message .now) (c .before .before .before .before .before .loop .at) (c .before .before .before .before .before .loop .last) 32 (c .before .before .before .before .before .loop .inv .0) (c .before .before .before .take-options .result) (c .before .before .before .take-options .ensures) (c .before .left2 .given .0 .0) (c .before .left2 .given .1) ∙ c .before .before .before .before .before .loop .inv .1
-
-enum-told : tie.Need-enum-told Inv-loop μ-loop
-enum-told c = search needs
+returns c =
+    let ran = c .before .before .before in
+    let at-loop = ran .before .before in
+    at-end _ _ _ 32 (at-loop .loop .inv .0) _ (ran .take-options .ensures) _ (c .before .left2 .given .1) ∙ at-loop .loop .inv .1
 
 returns-2 : tie.Need-returns-2 Inv-loop μ-loop
-returns-2 c = at-bad (c .before .before .before .before .before .before .args .message .now) (c .before .before .before .before .loop .at) (c .before .before .before .before .loop .last) 32 (c .before .before .before .before .loop .inv .0) (c .before .before .take-options .result) (c .before .before .take-options .ensures) (c .enum-told .given .1) ∙ c .before .before .before .before .loop .inv .1
+returns-2 c =
+    let ran = c .before .before in
+    let at-loop = ran .before .before in
+    at-bad _ _ _ 32 (at-loop .loop .inv .0) _ (ran .take-options .ensures) (c .enum-told .given .1) ∙ at-loop .loop .inv .1
 
 pub options-end-spec : {M : Type 1} → statement M
 options-end-spec =
@@ -60,16 +62,16 @@ options-end-spec =
     (tie.spec
     Inv-loop
     μ-loop
-    loop-holds
-    sub-take-options
-    part-take-options-start
-    part-take-options-end
-    take-options-requires
-    enum-known-left
-    sub-at
+    (λ c. (c .before .pre, refl))
+    (λ c. c .loop .inv .0)
+    (λ c. c .loop .inv .0)
+    (λ c. search needs)
+    (λ c κs. search needs)
+    (λ c. search needs)
+    left-there
     loop-less
     loop-again
-    enum-known-left-2
+    (λ c. search needs)
     returns
-    enum-told
+    (λ c. search needs)
     returns-2)

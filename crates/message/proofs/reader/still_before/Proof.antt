@@ -5,16 +5,13 @@ use Rattle.message.proofs.reader.still_before.Statement.{statement}
 use Rattle.message.proofs.reader.still_before.Tie as tie
 
 returns : tie.Need-returns
-returns c = rw (ne-eqb (c .before .args .number) (c .before .args .wanted) (c .if1 .taken))
+returns c = rw (ne-eqb _ _ (c .if1 .taken))
 
 returns-2 : tie.Need-returns-2
-returns-2 c = rw (eq-eqb (c .before .before .args .number) (c .before .before .args .wanted) (c .before .if1 .left)) (omega arith)
-
-sub-result : tie.Need-sub-result
-sub-result c = search needs
+returns-2 c = rw (eq-eqb _ _ (c .before .if1 .left)) (omega arith)
 
 returns-3 : tie.Need-returns-3
-returns-3 c = rw (eq-eqb (c .before .before .args .number) (c .before .before .args .wanted) (c .before .if1 .left))
+returns-3 c = rw (eq-eqb _ _ (c .before .if1 .left))
 
 pub still-before-spec : {M : Type 1} → statement M
-still-before-spec = tie.close (tie.spec returns returns-2 sub-result returns-3)
+still-before-spec = tie.close (tie.spec returns returns-2 (λ c. search needs) returns-3)

@@ -11,41 +11,11 @@ use Rattle.message_text.proofs.Lines.{pairs-length, long-line, bad-line
 use Rattle.message_text.proofs.line.put_line.Statement.{statement}
 use Rattle.message_text.proofs.line.put_line.Tie as tie
 
-put-unreadable-requires : tie.Need-put-unreadable-requires
-put-unreadable-requires c κs = search needs
-
-same-length : tie.Need-same-length
-same-length c = search needs
-
 returns : tie.Need-returns
 returns c = (put-as (c .before .before .put-unreadable .ensures .0) (long-line (c .before .before .before .before .before .before .before .before .args .number) (c .before .before .before .before .before .before .before .before .args .line .now) (c .before .before .before .before .if1 .taken)), omega (arith, c .before .before .put-unreadable .ensures .1))
 
-decode-pairs-requires : tie.Need-decode-pairs-requires
-decode-pairs-requires c κs = search needs
-
-enum-known-n : tie.Need-enum-known-n
-enum-known-n c = search needs
-
-enum-told : tie.Need-enum-told
-enum-told c = search needs
-
-put-unreadable-requires-2 : tie.Need-put-unreadable-requires-2
-put-unreadable-requires-2 c κs = search needs
-
-same-length-2 : tie.Need-same-length-2
-same-length-2 c = search needs
-
-same-length-3 : tie.Need-same-length-3
-same-length-3 c = search needs
-
 returns-2 : tie.Need-returns-2
 returns-2 c = (put-as (c .before .before .put-unreadable2 .ensures .0) (bad-line (c .before .before .before .before .before .before .before .before .before .before .before .before .before .before .args .number) (c .before .before .before .before .before .before .before .before .before .before .before .before .before .before .args .line .now) (c .before .before .before .before .before .before .before .before .before .before .if1 .left) (sym (c .before .before .before .before .before .before .before .before .decode-pairs .ensures .0) ∙ c .before .before .before .before .enum-told .given .1)), omega (arith, c .before .before .put-unreadable2 .ensures .1))
-
-sub-put-message : tie.Need-sub-put-message
-sub-put-message c = search needs
-
-part-put-message-start : tie.Need-part-put-message-start
-part-put-message-start c = search needs
 
 part-put-message-end : tie.Need-part-put-message-end
 part-put-message-end c =
@@ -63,12 +33,6 @@ put-message-requires c κs =
     let few = pairs-length (c .before .before .before .before .before .before .before .before .before .before .before .before .before .before .args .line .now) in
     omega (arith, ap length lent, few, c .before .before .before .before .before .before .before .before .before .before .if1 .left, c .before .before .before .before .before .before .before .before .before .before .before .before .before .before .pre .1)
 
-same-length-4 : tie.Need-same-length-4
-same-length-4 c = search needs
-
-same-length-5 : tie.Need-same-length-5
-same-length-5 c = search needs
-
 returns-3 : tie.Need-returns-3
 returns-3 c =
     let n = c .before .before .before .before .before .before .before .n .given .0 .0 in
@@ -82,20 +46,20 @@ pub put-line-spec : {M : Type 1} → statement M
 put-line-spec =
     tie.close
     (tie.spec
-    put-unreadable-requires
-    same-length
+    (λ c κs. search needs)
+    (λ c. search needs)
     returns
-    decode-pairs-requires
-    enum-known-n
-    enum-told
-    put-unreadable-requires-2
-    same-length-2
-    same-length-3
+    (λ c κs. search needs)
+    (λ c. search needs)
+    (λ c. search needs)
+    (λ c κs. search needs)
+    (λ c. search needs)
+    (λ c. search needs)
     returns-2
-    sub-put-message
-    part-put-message-start
+    (λ c. search needs)
+    (λ c. search needs)
     part-put-message-end
     put-message-requires
-    same-length-4
-    same-length-5
+    (λ c. search needs)
+    (λ c. search needs)
     returns-3)

@@ -6,34 +6,13 @@ use Rattle.message_text.proofs.Places.{read-tells, refused-line, messag
 use Rattle.message_text.proofs.line.put_message.Statement.{statement}
 use Rattle.message_text.proofs.line.put_message.Tie as tie
 
-from-bytes-requires : tie.Need-from-bytes-requires
-from-bytes-requires c κs = search needs
-
-enum-known-packet : tie.Need-enum-known-packet
-enum-known-packet c = search needs
-
-enum-told : tie.Need-enum-told
-enum-told c = search needs
-
-put-refused-requires : tie.Need-put-refused-requires
-put-refused-requires c κs = search needs
-
-same-length : tie.Need-same-length
-same-length c = search needs
-
 returns : tie.Need-returns
 returns c =
     let e = sym (c .before .before .before .before .before .before .from-bytes .ensures) ∙ c .before .before .before .before .enum-told .given .1 in
     (put-as (c .before .before .put-refused .ensures .0) (refused-line (c .before .before .before .before .before .before .before .before .before .args .number) (c .before .before .before .before .before .before .before .before .before .args .message .now) _ e), omega (arith, c .before .before .put-refused .ensures .1))
 
-put-head-requires : tie.Need-put-head-requires
-put-head-requires c κs = search needs
-
 put-parts-requires : tie.Need-put-parts-requires
 put-parts-requires c κs = (sym (c .before .before .before .before .before .before .before .before .from-bytes .ensures) ∙ c .before .before .before .before .before .before .packet .given .1, omega (arith, c .before .before .before .put-head .ensures .1, c .before .before .before .put-head .kept, c .before .before .before .before .before .before .before .before .before .before .before .pre))
-
-same-length-2 : tie.Need-same-length-2
-same-length-2 c = search needs
 
 returns-2 : tie.Need-returns-2
 returns-2 c =
@@ -45,13 +24,13 @@ pub put-message-spec : {M : Type 1} → statement M
 put-message-spec =
     tie.close
     (tie.spec
-    from-bytes-requires
-    enum-known-packet
-    enum-told
-    put-refused-requires
-    same-length
+    (λ c κs. search needs)
+    (λ c. search needs)
+    (λ c. search needs)
+    (λ c κs. search needs)
+    (λ c. search needs)
     returns
-    put-head-requires
+    (λ c κs. search needs)
     put-parts-requires
-    same-length-2
+    (λ c. search needs)
     returns-2)

@@ -17,12 +17,6 @@ abbrev μ-loop : tie.MeasureT-loop
 loop-holds : tie.Need-loop-holds Inv-loop μ-loop
 loop-holds c = walking-start _ _ _ _ _ (c .before .before .pre .0) (omega (arith, c .before .before .pre .1))
 
-next-option-requires : tie.Need-next-option-requires Inv-loop μ-loop
-next-option-requires c κs = search needs
-
-enum-known-number : tie.Need-enum-known-number Inv-loop μ-loop
-enum-known-number c = search needs
-
 put-byte-requires : tie.Need-put-byte-requires Inv-loop μ-loop
 put-byte-requires c κs =
     let m = c .before .before .before .before .before .before .before .before .args .message .now in
@@ -68,20 +62,8 @@ loop-less c =
 loop-again : tie.Need-loop-again Inv-loop μ-loop
 loop-again c = walking-turn (c .before .before .before .before .before .before .before .before .before .before .before .before .before .loop .inv) _ _ _ (sym (c .before .before .before .before .before .before .before .before .before .before .before .before .next-option .ensures) ∙ c .before .before .before .before .before .before .before .before .before .before .number .given .1) (c .before .before .before .before .before .before .before .put-byte .ensures) (c .before .before .put-option .ensures .0) (c .before .before .put-option .ensures .1)
 
-enum-told : tie.Need-enum-told Inv-loop μ-loop
-enum-told c = search needs
-
-same-length : tie.Need-same-length Inv-loop μ-loop
-same-length c = search needs
-
 returns : tie.Need-returns Inv-loop μ-loop
 returns c = λ list left are. walking-done (c .before .before .before .loop .inv) list left are (sym (c .before .before .next-option .ensures) ∙ c .enum-told .given .1)
-
-enum-told-2 : tie.Need-enum-told-2 Inv-loop μ-loop
-enum-told-2 c = search needs
-
-same-length-2 : tie.Need-same-length-2 Inv-loop μ-loop
-same-length-2 c = search needs
 
 returns-2 : tie.Need-returns-2 Inv-loop μ-loop
 returns-2 c = λ list left are. absurd (walking-broken (c .before .before .before .loop .inv) list left are (sym (c .before .before .next-option .ensures) ∙ c .enum-told2 .given .1))
@@ -93,8 +75,8 @@ put-more-spec =
     Inv-loop
     μ-loop
     loop-holds
-    next-option-requires
-    enum-known-number
+    (λ c κs. search needs)
+    (λ c. search needs)
     put-byte-requires
     sub-put-option
     part-put-option-start
@@ -102,9 +84,9 @@ put-more-spec =
     put-option-requires
     loop-less
     loop-again
-    enum-told
-    same-length
+    (λ c. search needs)
+    (λ c. search needs)
     returns
-    enum-told-2
-    same-length-2
+    (λ c. search needs)
+    (λ c. search needs)
     returns-2)

@@ -8,12 +8,6 @@ use Rattle.message_text.proofs.Laws.{value-length, options-over, option
 use Rattle.message_text.proofs.options.put_options.Statement.{statement}
 use Rattle.message_text.proofs.options.put_options.Tie as tie
 
-next-option-requires : tie.Need-next-option-requires
-next-option-requires c κs = search needs
-
-enum-known-number : tie.Need-enum-known-number
-enum-known-number c = search needs
-
 sub-put-option : tie.Need-sub-put-option
 sub-put-option c =
     let m = c .before .before .before .before .before .before .before .args .message .now in
@@ -56,18 +50,6 @@ put-more-requires c κs =
     let v = value-length m (o .0 .1 .0) (o .0 .1 .1 .0) (b .ends) (b .there) in
     (b .there, omega (arith, b .starts, b .ends, b .there, v, c .before .before .before .put-option .ensures .1, c .before .before .before .put-option .kept, c .before .before .before .before .before .before .before .before .before .before .before .before .pre .1))
 
-enum-told : tie.Need-enum-told
-enum-told c = search needs
-
-put-byte-requires : tie.Need-put-byte-requires
-put-byte-requires c κs = search needs
-
-enum-told-2 : tie.Need-enum-told-2
-enum-told-2 c = search needs
-
-same-length : tie.Need-same-length
-same-length c = search needs
-
 returns : tie.Need-returns
 returns c =
     let m = c .before .before .before .before .before .before .before .before .before .before .before .before .before .before .before .args .message .now in
@@ -79,9 +61,6 @@ returns c =
     let t = text-some m (c .before .before .before .before .before .before .before .before .before .before .before .before .before .before .before .args .first) list left are (o .0 .0) (o .0 .1 .0) (o .0 .1 .1 .0) e in
     let w = c .before .before .put-more .ensures (t .0) left (t .1) in
     (put-as (put-then (c .before .before .before .before .before .before .put-option .ensures .0) (w .0)) (t .2), omega (arith, b .starts, b .ends, b .there, v, c .before .before .before .before .before .before .put-option .ensures .1, w .1))
-
-same-length-2 : tie.Need-same-length-2
-same-length-2 c = search needs
 
 returns-2 : tie.Need-returns-2
 returns-2 c =
@@ -98,18 +77,18 @@ pub put-options-spec : {M : Type 1} → statement M
 put-options-spec =
     tie.close
     (tie.spec
-    next-option-requires
-    enum-known-number
+    (λ c κs. search needs)
+    (λ c. search needs)
     sub-put-option
     part-put-option-start
     part-put-option-end
     put-option-requires
     put-more-requires
-    enum-told
-    put-byte-requires
-    enum-told-2
-    same-length
+    (λ c. search needs)
+    (λ c κs. search needs)
+    (λ c. search needs)
+    (λ c. search needs)
     returns
-    same-length-2
+    (λ c. search needs)
     returns-2
     returns-3)

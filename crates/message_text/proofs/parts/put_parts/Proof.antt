@@ -10,9 +10,6 @@ use Rattle.message_text.proofs.Places.{read-tells}
 use Rattle.message_text.proofs.parts.put_parts.Statement.{statement}
 use Rattle.message_text.proofs.parts.put_parts.Tie as tie
 
-part-of-requires : tie.Need-part-of-requires
-part-of-requires c κs = search needs
-
 put-shown-requires : tie.Need-put-shown-requires
 put-shown-requires c κs =
     let x = read-tells (c .before .before .before .before .before .before .before .args .message .now) (c .before .before .before .before .before .before .before .args .packet) (c .before .before .before .before .before .before .before .pre .0) in
@@ -46,9 +43,6 @@ put-byte-requires-2 c κs =
     let are = c .before .before .before .put-options .ensures (m .options) (payloadBytes (m .payload)) (r .options-are) in
     omega (arith, c .before .before .before .before .before .before .before .before .before .before .before .before .before .before .before .before .before .before .before .pre .1, r .room, ap length token, c .before .before .before .before .before .before .before .before .before .before .before .put-shown .ensures .1, c .before .before .before .before .before .before .before .before .before .before .before .put-shown .kept .0, c .before .before .before .before .before .before .before .put-byte .ensures .to, c .before .before .before .before .before .before .before .put-byte .kept .0, are .1, c .before .before .before .put-options .kept .0, r .first-is, r .short)
 
-part-of-requires-2 : tie.Need-part-of-requires-2
-part-of-requires-2 c κs = search needs
-
 put-shown-requires-2 : tie.Need-put-shown-requires-2
 put-shown-requires-2 c κs =
     let x = read-tells (c .before .before .before .before .before .before .before .before .before .before .before .before .before .before .before .before .before .before .before .before .before .before .before .before .args .message .now) (c .before .before .before .before .before .before .before .before .before .before .before .before .before .before .before .before .before .before .before .before .before .before .before .before .args .packet) (c .before .before .before .before .before .before .before .before .before .before .before .before .before .before .before .before .before .before .before .before .before .before .before .before .pre .0) in
@@ -69,9 +63,6 @@ put-byte-requires-3 c κs =
     let payload = c .before .before .before .before .part-of2 .ensures ∙ r .payload-is in
     omega (arith, c .before .before .before .before .before .before .before .before .before .before .before .before .before .before .before .before .before .before .before .before .before .before .before .before .before .before .before .before .pre .1, r .room, ap length token, c .before .before .before .before .before .before .before .before .before .before .before .before .before .before .before .before .before .before .before .before .put-shown .ensures .1, c .before .before .before .before .before .before .before .before .before .before .before .before .before .before .before .before .before .before .before .before .put-shown .kept .0, c .before .before .before .before .before .before .before .before .before .before .before .before .before .before .before .before .put-byte .ensures .to, c .before .before .before .before .before .before .before .before .before .before .before .before .before .before .before .before .put-byte .kept .0, are .1, c .before .before .before .before .before .before .before .before .before .before .before .before .put-options .kept .0, r .first-is, r .short, c .before .before .before .before .before .before .before .before .put-byte2 .ensures .to, c .before .before .before .before .before .before .before .before .put-byte2 .kept .0, ap length payload, c .before .before .before .put-shown2 .ensures .1, c .before .before .before .put-shown2 .kept .0)
 
-same-length : tie.Need-same-length
-same-length c = search needs
-
 returns : tie.Need-returns
 unfolding partsText
 returns c =
@@ -90,13 +81,13 @@ pub put-parts-spec : {M : Type 1} → statement M
 put-parts-spec =
     tie.close
     (tie.spec
-    part-of-requires
+    (λ c κs. search needs)
     put-shown-requires
     put-byte-requires
     put-options-requires
     put-byte-requires-2
-    part-of-requires-2
+    (λ c κs. search needs)
     put-shown-requires-2
     put-byte-requires-3
-    same-length
+    (λ c. search needs)
     returns)

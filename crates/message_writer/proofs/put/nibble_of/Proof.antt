@@ -5,9 +5,6 @@ use borrow.Author.Needs.{needs}
 use Rattle.message_writer.proofs.put.nibble_of.Statement.{statement}
 use Rattle.message_writer.proofs.put.nibble_of.Tie as tie
 
-cast-result : tie.Need-cast-result
-cast-result c = search needs
-
 returns : tie.Need-returns
 returns c = (sym (nibble-0 _ (c .if1 .taken)), omega arith)
 
@@ -18,4 +15,4 @@ returns-3 : tie.Need-returns-3
 returns-3 c = (sym (nibble-2 _ (c .if2 .left)), omega arith)
 
 pub nibble-of-spec : {M : Type 1} → statement M
-nibble-of-spec = tie.close (tie.spec cast-result returns returns-2 returns-3)
+nibble-of-spec = tie.close (tie.spec (λ c. search needs) returns returns-2 returns-3)

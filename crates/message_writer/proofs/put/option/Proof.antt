@@ -5,17 +5,23 @@ use borrow.Author.Needs.{needs}
 use Rattle.message_writer.proofs.put.option.Statement.{statement}
 use Rattle.message_writer.proofs.put.option.Tie as tie
 
-option-head-requires : tie.Need-option-head-requires
-option-head-requires c κs = let a = c .before .before .before .args in let n = length-append (optionHead (a .delta) (length (a .value .now))) (a .value .now) in search needs
+head-fits : tie.Need-option-head-requires
+head-fits c κs =
+    let args = c .before .before .before .args in
+    let n = length-append (optionHead (args .delta) (length (args .value .now))) (args .value .now) in
+    search needs
 
-put-requires : tie.Need-put-requires
-put-requires c κs = let a = c .before .before .before .before .before .before .before .args in let n = length-append (optionHead (a .delta) (length (a .value .now))) (a .value .now) in search needs
-
-same-length : tie.Need-same-length
-same-length c = search needs
+value-fits : tie.Need-put-requires
+value-fits c κs =
+    let args = c .before .before .before .before .before .before .before .args in
+    let n = length-append (optionHead (args .delta) (length (args .value .now))) (args .value .now) in
+    search needs
 
 returns : tie.Need-returns
-returns c = put-then (c .before .before .before .before .before .before .option-head .ensures) (c .before .before .put .ensures)
+returns c =
+    let value = c .before .before in
+    let head = value .before .before .before .before in
+    put-then (head .option-head .ensures) (value .put .ensures)
 
 pub option-spec : {M : Type 1} → statement M
-option-spec = tie.close (tie.spec option-head-requires put-requires same-length returns)
+option-spec = tie.close (tie.spec head-fits value-fits (λ c. search needs) returns)

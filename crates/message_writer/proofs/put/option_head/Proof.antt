@@ -5,43 +5,43 @@ use borrow.Author.Needs.{needs}
 use Rattle.message_writer.proofs.put.option_head.Statement.{statement}
 use Rattle.message_writer.proofs.put.option_head.Tie as tie
 
-nibble-of-requires : tie.Need-nibble-of-requires
-nibble-of-requires c κs = search needs
+first-fits : tie.Need-put-byte-requires
+first-fits c κs = let args = c .before .before .before .before .args in omega (arith, head-length (args .delta) (args .len))
 
-mul-put-byte : tie.Need-mul-put-byte
-mul-put-byte c = search needs
+delta-fits : tie.Need-extension-requires
+delta-fits c κs =
+    let first = c .before .before .before .before in
+    let args = first .before .before .before .before .args in
+    let h = head-length (args .delta) (args .len) in
+    search needs
 
-nibble-of-requires-2 : tie.Need-nibble-of-requires-2
-nibble-of-requires-2 c κs = search needs
-
-add-put-byte : tie.Need-add-put-byte
-add-put-byte c = search needs
-
-put-byte-requires : tie.Need-put-byte-requires
-put-byte-requires c κs = omega (arith, head-length (c .before .before .before .before .args .delta) (c .before .before .before .before .args .len))
-
-extension-requires : tie.Need-extension-requires
-extension-requires c κs = let h = head-length (c .before .before .before .before .before .before .before .before .args .delta) (c .before .before .before .before .before .before .before .before .args .len) in search needs
-
-extension-requires-2 : tie.Need-extension-requires-2
-extension-requires-2 c κs = let h = head-length (c .before .before .before .before .before .before .before .before .before .before .before .before .args .delta) (c .before .before .before .before .before .before .before .before .before .before .before .before .args .len) in search needs
-
-same-length : tie.Need-same-length
-same-length c = search needs
+length-fits : tie.Need-extension-requires-2
+length-fits c κs =
+    let delta = c .before .before .before .before in
+    let first = delta .before .before .before .before in
+    let args = first .before .before .before .before .args in
+    let h = head-length (args .delta) (args .len) in
+    search needs
 
 returns : tie.Need-returns
-returns c = put-as (put-then (c .before .before .before .before .before .before .before .before .before .before .put-byte .ensures) (put-then (c .before .before .before .before .before .before .extension .ensures) (c .before .before .extension2 .ensures))) (head-is _ _ _ _ (c .before .before .before .before .before .before .before .before .before .before .before .before .nibble-of .ensures .0) (c .before .before .before .before .before .before .before .before .before .before .before .nibble-of2 .ensures .0))
+returns c =
+    let len = c .before .before in
+    let delta = len .before .before .before .before in
+    let first = delta .before .before .before .before in
+    let nibbles = first .before in
+    put-as (put-then (first .put-byte .ensures) (put-then (delta .extension .ensures) (len .extension2 .ensures)))
+    (head-is _ _ _ _ (nibbles .before .nibble-of .ensures .0) (nibbles .nibble-of2 .ensures .0))
 
 pub option-head-spec : {M : Type 1} → statement M
 option-head-spec =
     tie.close
     (tie.spec
-    nibble-of-requires
-    mul-put-byte
-    nibble-of-requires-2
-    add-put-byte
-    put-byte-requires
-    extension-requires
-    extension-requires-2
-    same-length
+    (λ c κs. search needs)
+    (λ c. search needs)
+    (λ c κs. search needs)
+    (λ c. search needs)
+    first-fits
+    delta-fits
+    length-fits
+    (λ c. search needs)
     returns)
