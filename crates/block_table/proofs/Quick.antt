@@ -1,4 +1,5 @@
--- Why the quick test of a table is the exact one: entries in use with one key have one tag, so where no two tags are equal no two keys are. Assumes nothing.
+-- Why the quick test of a table is the exact one: entries in use with one key have one tag, so where no two tags are equal no two keys are. Assumes
+-- nothing.
 use mathlib.Core.Path.{_≡_, refl, sym, ap, _∙_}
 use mathlib.Core.List.{List, [], _∷_}
 use mathlib.Core.Bool.{Bool, true, false, cond}
@@ -12,15 +13,12 @@ use lib.Dec.{eqb}
 use borrow.Author.Tests.{eq-eqb}
 use Rattle.digest.specs.Digest.{times}
 use Rattle.digest.proofs.Counts.{Apart}
-use Rattle.config.specs.declared.Config.{Config}
 use Rattle.entries.specs.declared.Entry.{Entry}
-use Rattle.keys.specs.Lists.{all}
-use Rattle.entries.specs.Entries.{entryOk, clash}
+use Rattle.entries.specs.Entries.{clash}
 use Rattle.block_table.specs.Table.{distinct}
 use Rattle.entries.specs.Quick.{tagOf}
 use Rattle.block_table.specs.Quick.{tagsFrom, alone}
 use Rattle.keys.proofs.Turns.{drop-step}
-use Rattle.pieces.proofs.Tests.{and-left, and-right}
 use Rattle.entries.proofs.Quick.{tag-same}
 
 module _ (l : List Entry) (i : ℕ) where
@@ -47,36 +45,29 @@ tags-at [] i j d h = absurd (not-suc-le-zero h)
 tags-at (e ∷ rest) zero j d h = rw (add-zero j)
 tags-at (e ∷ rest) (suc i) j d h = tags-at rest i (j + 1) d (le-of-suc-le-suc h) ∙ ap (tagOf (getD rest i d)) (omega arith)
 
-pub tags-go : (l : List Entry) (row : List ℕ) (i v : ℕ) (d : Entry) → i < length l → i < length row → v ≡ tagOf (getD l i d) i → take i row ≡ take i (tagsFrom 0 l)
-    → take (i + 1) (set row i v) ≡ take (i + 1) (tagsFrom 0 l)
+pub tags-go : (l : List Entry) (row : List ℕ) (i v : ℕ) (d : Entry) → i < length l → i < length row → v ≡ tagOf (getD l i d) i
+    → take i row ≡ take i (tagsFrom 0 l) → take (i + 1) (set row i v) ≡ take (i + 1) (tagsFrom 0 l)
 tags-go l row i v d h g e was =
     let k : i < length (tagsFrom 0 l) = rw (tags-length 0 l) h in
     let f : getD (tagsFrom 0 l) i 0 ≡ v = tags-at l i 0 d h ∙ ap (tagOf (getD l i d)) (omega arith) ∙ sym e in
     rw (add-one, take-suc-set row i v g, take-suc (tagsFrom 0 l) i 0 k, was, f)
 
--- ---- entries within the limits whose tags differ do not clash
+-- ---- entries whose tags differ do not clash
 
 abbrev hit : ℕ → ℕ → ℕ
 hit x d = cond (eqb x d) 1 0
 
-module _ (c : Config) (clock : ℕ) where
-  clear : (e f : Entry) (i j : ℕ) (b : Bool) → clash e f ≡ b → entryOk c clock e ≡ true → entryOk c clock f ≡ true → hit (tagOf f j) (tagOf e i) ≡ 0 → b ≡ false
-  clear e f i j false k p q h = refl
-  clear e f i j true k p q h =
-      let g : hit (tagOf f j) (tagOf e i) ≡ 1 = rw (eq-eqb (tagOf f j) (tagOf e i) (tag-same c clock e f i j p q k)) in
-      absurd (omega arith)
+clear : (e f : Entry) (i j : ℕ) (b : Bool) → clash e f ≡ b → hit (tagOf f j) (tagOf e i) ≡ 0 → b ≡ false
+clear e f i j false k h = refl
+clear e f i j true k h =
+    let g : hit (tagOf f j) (tagOf e i) ≡ 1 = rw (eq-eqb (tagOf f j) (tagOf e i) (tag-same e f i j k)) in
+    absurd (omega arith)
 
-  alone-by : (e : Entry) (l : List Entry) (i j : ℕ) → entryOk c clock e ≡ true → all (entryOk c clock) l ≡ true → times (tagOf e i) (tagsFrom j l) ≡ 0 → alone e l ≡ true
-  alone-by e [] i j p q h = refl
-  alone-by e (f ∷ rest) i j p q h =
-      let a = and-left (entryOk c clock f) (all (entryOk c clock) rest) q in
-      let b = and-right (entryOk c clock f) (all (entryOk c clock) rest) q in
-      rw (clear e f i j (clash e f) refl p a (omega arith), alone-by e rest i (j + 1) p b (omega arith))
+alone-by : (e : Entry) (l : List Entry) (i j : ℕ) → times (tagOf e i) (tagsFrom j l) ≡ 0 → alone e l ≡ true
+alone-by e [] i j h = refl
+alone-by e (f ∷ rest) i j h = rw (clear e f i j (clash e f) refl (omega arith), alone-by e rest i (j + 1) (omega arith))
 
-  pub distinct-by : (l : List Entry) (j : ℕ) → all (entryOk c clock) l ≡ true → Apart (tagsFrom j l) → distinct l ≡ true
-  unfolding distinct
-  distinct-by [] j p h = refl
-  distinct-by (e ∷ rest) j p h =
-      let a = and-left (entryOk c clock e) (all (entryOk c clock) rest) p in
-      let b = and-right (entryOk c clock e) (all (entryOk c clock) rest) p in
-      rw (alone-by e rest j (j + 1) a b (h .0), distinct-by rest (j + 1) b (h .1))
+pub distinct-by : (l : List Entry) (j : ℕ) → Apart (tagsFrom j l) → distinct l ≡ true
+unfolding distinct
+distinct-by [] j h = refl
+distinct-by (e ∷ rest) j h = rw (alone-by e rest j (j + 1) (h .0), distinct-by rest (j + 1) (h .1))

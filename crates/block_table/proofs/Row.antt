@@ -11,7 +11,7 @@ use lib.Seq.{getD-set-same, getD-set-other}
 use Rattle.pieces.proofs.Tests.{and-left, and-right, and-both, false-is-not, refute, clash-of}
 use Rattle.entries.specs.declared.Entry.{Entry}
 use Rattle.keys.specs.Lists.{all}
-use Rattle.keys.specs.Keys.{keyOf}
+use Rattle.keys.specs.Keys.{Name, keyOf}
 use Rattle.entries.specs.Entries.{free, holds, clash, live, swept}
 use Rattle.block_table.specs.Table.{distinct, sweep, at}
 use Rattle.keys.proofs.Lists.{all-at, at-all}
@@ -19,7 +19,7 @@ use Rattle.entries.proofs.Entries.{holds-own, no-clash, swept-holds}
 
 -- no two entries hold one key
 unfoldable pub Unique : List Entry → Type 0
-Unique l = (k : List ℕ) (i j : ℕ) → i < length l → j < length l → holds k (at l i) ≡ true → holds k (at l j) ≡ true → i ≡ j
+Unique l = (k : Name) (i j : ℕ) → i < length l → j < length l → holds k (at l i) ≡ true → holds k (at l j) ≡ true → i ≡ j
 
 pub distinct-unique : (l : List Entry) → distinct l ≡ true → Unique l
 unfolding distinct Unique
@@ -78,8 +78,8 @@ module _ (l : List Entry) (i : ℕ) (n : Entry) (b : i < length l) where
       elim (ℕ-discrete j i) [ yes e ↦ rw e (rw at-set-same new) | no ne ↦ rw (at-set-other j ne) (old j h ne) ]
 
   -- a new entry that holds no key but k, where no other does, leaves no two that hold one key
-  pub unique-set : (k : List ℕ) → ((q : List ℕ) → holds q n ≡ true → q ≡ k) → Unique l → ((j : ℕ) → j < length l → j ≢ i → holds k (at l j) ≡ false)
-      → Unique (set l i n)
+  pub unique-set : (k : Name) → ((q : Name) → holds q n ≡ true → q ≡ k) → Unique l
+      → ((j : ℕ) → j < length l → j ≢ i → holds k (at l j) ≡ false) → Unique (set l i n)
   unfolding Unique
   unique-set k only u others q a c ha hc =
       at-set (λ a e. holds q e ≡ true → holds q (at (set l i n) c) ≡ true → a ≡ c)

@@ -14,14 +14,14 @@ use Rattle.entries.specs.declared.Entry.{Entry}
 use Rattle.keys.specs.Lists.{all}
 use Rattle.entries.specs.Entries.{swept, entryOk}
 use Rattle.block_table.specs.Table.{sweep}
-use Rattle.pieces.proofs.Tests.{and-left, and-right}
-use Rattle.keys.proofs.Turns.{drop-step, all-end}
+use Rattle.pieces.proofs.Tests.{ands}
+use Rattle.keys.proofs.Turns.{nilKey, drop-step, all-end}
 use Rattle.entries.specs.Quick.{sized, unexpired}
 use Rattle.entries.proofs.Cases.{kept-by}
 
 -- What an index past the end of a row reads, as Rattle has it. Below the length it does not matter.
 abbrev pub nil : Entry
-nil = record { key = record { bytes = []; len = 0 }; used = false; touched = 0; state = nothing }
+nil = record { key = nilKey; used = false; touched = 0; state = nothing }
 
 -- below the length of a row it does not matter what stands past its end
 pub getD-any : (l : List Entry) (i : ℕ) (d e : Entry) → i < length l → getD l i d ≡ getD l i e
@@ -32,23 +32,24 @@ getD-any (x ∷ l) (suc i) d e h = getD-any l i d e (omega arith)
 -- ---- expiry
 
 module _ (c : Config) (clock : ℕ) where
-  swept-all : (lifetime time : ℕ) (l : List Entry) → all (entryOk c clock) l ≡ true → all sized l ≡ true → all (unexpired lifetime time) l ≡ true → map (swept lifetime time) l ≡ l
+  swept-all : (lifetime time : ℕ) (l : List Entry) → all (entryOk c clock) l ≡ true → all sized l ≡ true → all (unexpired lifetime time) l ≡ true
+      → map (swept lifetime time) l ≡ l
   swept-all lifetime time [] h z x = refl
   swept-all lifetime time (e ∷ rest) h z x =
-      ap₂ _∷_
-      (kept-by c clock lifetime time e (e .used) refl (and-left (entryOk c clock e) (all (entryOk c clock) rest) h) (and-left (sized e) (all sized rest) z) (and-left (unexpired lifetime time e) (all (unexpired lifetime time) rest) x))
-      (swept-all lifetime time rest (and-right (entryOk c clock e) (all (entryOk c clock) rest) h) (and-right (sized e) (all sized rest) z) (and-right (unexpired lifetime time e) (all (unexpired lifetime time) rest) x))
+      let one = kept-by c clock lifetime time e (e .used) refl (search ands) (search ands) (search ands) in
+      ap₂ _∷_ one (swept-all lifetime time rest (search ands) (search ands) (search ands))
 
   -- where nothing is expired a sweep leaves the row as it is
-  pub sweep-kept : (lifetime time : ℕ) (l : List Entry) (freed : Bool) → all (entryOk c clock) l ≡ true → all sized l ≡ true → freed ≡ not (all (unexpired lifetime time) l)
-      → cond freed (sweep lifetime time l) l ≡ sweep lifetime time l
+  pub sweep-kept : (lifetime time : ℕ) (l : List Entry) (freed : Bool) → all (entryOk c clock) l ≡ true → all sized l ≡ true
+      → freed ≡ not (all (unexpired lifetime time) l) → cond freed (sweep lifetime time l) l ≡ sweep lifetime time l
   unfolding sweep
   sweep-kept lifetime time l true h z x = refl
   sweep-kept lifetime time l false h z x = sym (swept-all lifetime time l h z (not-false _ (sym x)))
 
 -- What is found expired so far, and what is left to look at.
 module _ (p : Entry → Bool) (l : List Entry) (i : ℕ) (freed : Bool) (a : Bool) where
-  pub freed-go : (gone : Bool) → i < length l → p (getD l i nil) ≡ not gone → (freed || not (all p (drop i l))) ≡ a → ((freed || gone) || not (all p (drop (i + 1) l))) ≡ a
+  pub freed-go : (gone : Bool) → i < length l → p (getD l i nil) ≡ not gone → (freed || not (all p (drop i l))) ≡ a
+      → ((freed || gone) || not (all p (drop (i + 1) l))) ≡ a
   freed-go gone h e was = turn freed gone (all p (drop (i + 1) l)) ∙ rw (drop-step l i nil h, e) at was
     where
       turn : (f g b : Bool) → ((f || g) || not b) ≡ (f || not (not g && b))

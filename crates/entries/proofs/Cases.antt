@@ -1,21 +1,19 @@
 -- The laws that the code's branches use, by their cases. Assumes nothing.
 use mathlib.Core.Path.{_≡_, refl, sym, ap, _∙_}
-use mathlib.Core.List.{List}
 use mathlib.Core.Bool.{Bool, true, false, not, cond, _&&_}
 use Prim.Native.Nat.{ℕ, _-_}
-use lib.ListN.{length, replicate}
 use lib.Dec.{ltb}
-use borrow.Author.Tests.{eq-eqb, eqb-true}
+use borrow.Author.Tests.{eqb-true}
 use Rattle.config.specs.declared.Config.{Config}
 use Rattle.block_state.specs.declared.BlockState.{BlockState}
 use Rattle.block_state.specs.State.{nothing, isNothing}
 use Rattle.entries.specs.declared.Entry.{Entry}
-use Rattle.keys.specs.Keys.{same, keyOf, isNoKey}
+use Rattle.keys.specs.Keys.{Name, same, keyOf, keySized}
 use Rattle.entries.specs.Entries.{free, holds, live, swept, unused, entryOk}
 use Rattle.entries.proofs.Entries.{live-used, swept-live, swept-dead}
 use Rattle.pieces.proofs.Tests.{ands}
 use Rattle.entries.specs.Quick.{holdsLive, notLive, sized, unexpired}
-use Rattle.keys.proofs.Turns.{zeros}
+use Rattle.keys.proofs.Keys.{no-key-is}
 
 -- ---- expiry
 
@@ -24,7 +22,7 @@ module _ (lifetime time : ℕ) (e : Entry) where
   unfolding live
   live-as b h = sym h
 
-module _ (lifetime time : ℕ) (k : List ℕ) (e : Entry) where
+module _ (lifetime time : ℕ) (k : Name) (e : Entry) where
   pub held-expired : live lifetime time e ≡ false → holdsLive lifetime time k e ≡ false
   unfolding holdsLive
   held-expired h = rw h
@@ -54,18 +52,22 @@ pub sized-used : (e : Entry) → e .used ≡ true → sized e ≡ true
 unfolding sized
 sized-used e u = rw u
 
-pub sized-free : (e : Entry) → e .used ≡ false → length (e .key .bytes) ≡ 64 → sized e ≡ true
+pub sized-free : (e : Entry) → e .used ≡ false → keySized (e .key) ≡ true → sized e ≡ true
 unfolding sized
-sized-free e u long = rw (u, eq-eqb (length (e .key .bytes)) 64 long)
+sized-free e u long = rw (u, long)
 
 -- a free entry within the limits is zeros
 module _ (c : Config) (clock : ℕ) where
-  free-is : (e : Entry) → e .used ≡ false → entryOk c clock e ≡ true → length (e .key .bytes) ≡ 64 → e ≡ free
-  unfolding entryOk isNoKey
+  free-is : (e : Entry) → e .used ≡ false → entryOk c clock e ≡ true → keySized (e .key) ≡ true → e ≡ free
+  unfolding entryOk
   free-is e u h long =
       let ok = rw u at h in
-      let z : e .key .bytes ≡ replicate 64 0 = zeros (e .key .bytes) (search ands depth 12) ∙ ap (λ (n : ℕ). replicate n 0) long in
-      λ k. record { key = record { bytes = z k; len = eqb-true (e .key .len) 0 (search ands depth 12) k }; used = u k; touched = eqb-true (e .touched) 0 (search ands depth 12) k; state = nothing-is (e .state) (search ands depth 12) k }
+      λ k. record {
+        key = no-key-is (e .key) (search ands depth 12) long k;
+        used = u k;
+        touched = eqb-true (e .touched) 0 (search ands depth 12) k;
+        state = nothing-is (e .state) (search ands depth 12) k;
+      }
 
   -- where nothing is expired a sweep leaves the entry as it is
   pub kept-by : (lifetime time : ℕ) (e : Entry) (b : Bool) → e .used ≡ b → entryOk c clock e ≡ true → sized e ≡ true → unexpired lifetime time e ≡ true → swept lifetime time e ≡ e
@@ -77,16 +79,16 @@ module _ (c : Config) (clock : ℕ) where
       no-no true h = refl
       no-no false h = h
   kept-by lifetime time e false u h z x =
-      swept-dead lifetime time e (rw u) ∙ sym (free-is e u h (eqb-true (length (e .key .bytes)) 64 (rw u at z)))
+      swept-dead lifetime time e (rw u) ∙ sym (free-is e u h (rw u at z))
 
 -- ---- what a swept entry holds, seen before the sweep
 
-held-by : (k : List ℕ) (e : Entry) (b : Bool) → (b ≡ true → e .used ≡ true) → holds k (cond b e free) ≡ (b && same k (keyOf (e .key)))
+held-by : (k : Name) (e : Entry) (b : Bool) → (b ≡ true → e .used ≡ true) → holds k (cond b e free) ≡ (b && same k (keyOf (e .key)))
 unfolding holds
 held-by k e true h = rw (h refl)
 held-by k e false h = refl
 
-pub holds-swept : (k : List ℕ) (lifetime time : ℕ) (e : Entry) → holds k (swept lifetime time e) ≡ holdsLive lifetime time k e
+pub holds-swept : (k : Name) (lifetime time : ℕ) (e : Entry) → holds k (swept lifetime time e) ≡ holdsLive lifetime time k e
 unfolding swept holdsLive
 holds-swept k lifetime time e = held-by k e (live lifetime time e) (live-used lifetime time e)
 

@@ -2,7 +2,6 @@
 use Prim.Native.Nat.{ℕ, _-_, _≤_, _<_}
 use mathlib.Core.Bool.{true, false, not, _&&_, false≢true}
 use mathlib.Core.Path.{_≡_, refl, sym, _∙_, ap}
-use mathlib.Core.List.{List}
 use native.Mathlib.Omega.{arith}
 use lib.Dec.{leb, ltb}
 use borrow.Author.Tests.{leb-true, lt-ltb, le-leb, not-true}
@@ -13,17 +12,17 @@ use Rattle.pieces.proofs.Tests.{ands, and-left, and-right, and-both, clash-of, 
 use Rattle.block_state.proofs.Fits.{StateFits, state-fits, fits-state, nothing-empty}
 use Rattle.keys.specs.declared.Key.{Key}
 use Rattle.entries.specs.declared.Entry.{Entry}
-use Rattle.keys.specs.Keys.{same, keyOf, storedOk}
+use Rattle.keys.specs.Keys.{Name, same, keyOf, storedOk}
 use Rattle.entries.specs.Entries.{inUse, free, holds, entryOk, clash, live, swept}
 use Rattle.keys.proofs.Keys.{same-refl, same-eq, no-key}
 
 -- ---- whose entry
 
-pub holds-used : (k : List ℕ) (e : Entry) → holds k e ≡ true → e .used ≡ true
+pub holds-used : (k : Name) (e : Entry) → holds k e ≡ true → e .used ≡ true
 unfolding holds
 holds-used k e h = and-left (e .used) (same k (keyOf (e .key))) h
 
-pub holds-key : (k : List ℕ) (e : Entry) → holds k e ≡ true → k ≡ keyOf (e .key)
+pub holds-key : (k : Name) (e : Entry) → holds k e ≡ true → k ≡ keyOf (e .key)
 unfolding holds
 holds-key k e h = same-eq k (keyOf (e .key)) (and-right (e .used) (same k (keyOf (e .key))) h)
 
@@ -31,16 +30,16 @@ pub holds-own : (e : Entry) → e .used ≡ true → holds (keyOf (e .key)) e �
 unfolding holds
 holds-own e h = and-both (e .used) (same (keyOf (e .key)) (keyOf (e .key))) h (same-refl (keyOf (e .key)))
 
-pub holds-one : (k q : List ℕ) (e : Entry) → holds k e ≡ true → holds q e ≡ true → k ≡ q
+pub holds-one : (k q : Name) (e : Entry) → holds k e ≡ true → holds q e ≡ true → k ≡ q
 holds-one k q e a b = holds-key k e a ∙ sym (holds-key q e b)
 
 -- an entry in use whose key is k holds q exactly where q is k
-pub holds-new : (q k : List ℕ) (y : Key) (t : ℕ) (s : BlockState) → keyOf y ≡ k → holds q (inUse y t s) ≡ same q k
+pub holds-new : (q k : Name) (y : Key) (t : ℕ) (s : BlockState) → keyOf y ≡ k → holds q (inUse y t s) ≡ same q k
 unfolding holds
 holds-new q k y t s e = ap (same q) e
 
 -- two entries that do not clash do not hold one key
-pub no-clash : (k : List ℕ) (e f : Entry) → holds k e ≡ true → holds k f ≡ true → not (clash e f) ≡ true → ⊥
+pub no-clash : (k : Name) (e f : Entry) → holds k e ≡ true → holds k f ≡ true → not (clash e f) ≡ true → ⊥
 unfolding clash
 no-clash k e f a b h =
     clash-of (e .used && holds (keyOf (e .key)) f)
@@ -66,7 +65,7 @@ module _ (lifetime time : ℕ) where
   swept-dead e h = rw h
 
   -- what a swept entry holds, the entry held, and it is live
-  pub swept-holds : (k : List ℕ) (e : Entry) → holds k (swept lifetime time e) ≡ true → (live lifetime time e ≡ true) × (holds k e ≡ true)
+  pub swept-holds : (k : Name) (e : Entry) → holds k (swept lifetime time e) ≡ true → (live lifetime time e ≡ true) × (holds k e ≡ true)
   unfolding swept holds
   swept-holds k e =
       by-cases (live lifetime time e) (λ y. rw y (λ h. (refl, h))) (λ n. rw n (λ h. absurd (false≢true h)))

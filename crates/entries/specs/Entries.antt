@@ -1,14 +1,13 @@
 -- Document 01, "Table and clock", of one entry: in use or free, its limits, and expiry.
 use Prim.Native.Nat.{ℕ, _-_}
 use mathlib.Core.Bool.{Bool, true, false, cond, not, _&&_}
-use mathlib.Core.List.{List}
 use lib.Dec.{leb, ltb, eqb}
 use Rattle.config.specs.declared.Config.{Config}
 use Rattle.block_state.specs.declared.BlockState.{BlockState}
 use Rattle.block_state.specs.State.{nothing, stateOk, isNothing}
 use Rattle.keys.specs.declared.Key.{Key}
 use Rattle.entries.specs.declared.Entry.{Entry}
-use Rattle.keys.specs.Keys.{same, keyOf, storedOk, noKey, isNoKey}
+use Rattle.keys.specs.Keys.{Name, same, keyOf, storedOk, noKey, isNoKey}
 
 abbrev pub inUse : Key → ℕ → BlockState → Entry
 inUse k touched s = record { key = k; used = true; touched = touched; state = s }
@@ -18,7 +17,7 @@ abbrev pub free : Entry
 free = record { key = noKey; used = false; touched = 0; state = nothing }
 
 -- The entry is in use for this key.
-unfoldable pub holds : List ℕ → Entry → Bool
+unfoldable pub holds : Name → Entry → Bool
 holds k e = e .used && same k (keyOf (e .key))
 
 abbrev pub unused : Entry → Bool

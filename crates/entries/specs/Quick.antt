@@ -1,21 +1,17 @@
 -- How the code tests one entry quickly. No contract of the handler's two calls, nor of an export, cites this.
 use Prim.Native.Nat.{ℕ, _-_, _*_}
 use mathlib.Core.Bool.{Bool, cond, not, _&&_, _||_}
-use mathlib.Core.List.{List}
-use lib.ListN.{length}
-use lib.Dec.{leb, ltb, eqb}
-use Rattle.digest.specs.Digest.{digestOf, folded}
+use lib.Dec.{ltb}
 use Rattle.entries.specs.declared.Entry.{Entry}
-use Rattle.keys.specs.Keys.{same, keyOf}
+use Rattle.keys.specs.Keys.{Name, same, keyOf, keySized, tagOf as keyTag}
 use Rattle.entries.specs.Entries.{live}
 
--- A number that entries in use have in common if their keys are equal: odd. The number of one that is free, or off the limits, is even, and apart from every
--- other's.
+-- A number that entries in use have in common if their keys are the same. The number of a free entry is even, and apart from every other's.
 unfoldable pub tagOf : Entry → ℕ → ℕ
-tagOf e i = cond (e .used && leb (e .key .len) 64) (folded (digestOf (keyOf (e .key)))) (i * 2)
+tagOf e i = cond (e .used) (keyTag (keyOf (e .key))) (i * 2)
 
 -- What a sweep leaves in use for the key, and what it leaves free, seen before the sweep.
-unfoldable pub holdsLive : ℕ → ℕ → List ℕ → Entry → Bool
+unfoldable pub holdsLive : ℕ → ℕ → Name → Entry → Bool
 holdsLive lifetime time k e = live lifetime time e && same k (keyOf (e .key))
 
 abbrev pub notLive : ℕ → ℕ → Entry → Bool
@@ -23,7 +19,7 @@ notLive lifetime time e = not (live lifetime time e)
 
 -- What the types give of a free entry: the bytes of its key are 64.
 unfoldable pub sized : Entry → Bool
-sized e = e .used || eqb (length (e .key .bytes)) 64
+sized e = e .used || keySized (e .key)
 
 -- Free, or live: a sweep leaves it as it is, if the table is within its limits.
 unfoldable pub unexpired : ℕ → ℕ → Entry → Bool

@@ -3,16 +3,14 @@ use block_state::Assembled;
 use block_state::BlockState;
 use block_state::Cached;
 use block_state::Recorded;
-use block_state::limits;
 use config::Config;
 use keys::Key;
 ghost use mathlib.Core.Path.{_≡_};
 ghost use mathlib.Core.Bool.{true, false, not, _&&_, cond};
-ghost use Prim.Native.Nat.{_-_, _≤_, _<_};
-ghost use lib.ListN.{length};
+ghost use Prim.Native.Nat.{_-_, _<_};
 ghost use lib.Dec.{ltb};
 ghost use Rattle.block_state.specs.State.{nothing};
-ghost use Rattle.keys.specs.Keys.{stored};
+ghost use Rattle.keys.specs.Keys.{keySized};
 ghost use Rattle.entries.specs.Entries.{inUse, free, entryOk, clash, swept};
 ghost use Rattle.entries.specs.Quick.{tagOf, sized};
 
@@ -30,17 +28,18 @@ fn used_ok(config: Config, clock: u64, e: Entry) -> bool
     requires { ⌜ e .used ≡ true ⌝ }
     ensures { λ r. ⌜ r ≡ entryOk config clock e ⌝ }
 {
+    let key = e.key;
     let state = e.state;
-    (1 <= e.key.len) & (e.key.len <= 64) & (e.touched <= clock) & limits::state_ok(config, state)
+    keys::stored_ok(key) & (e.touched <= clock) & block_state::limits::state_ok(config, state)
 }
 
 fn free_ok(config: Config, clock: u64, e: Entry) -> bool
     requires { ⌜ e .used ≡ false ⌝ }
-    ensures { λ r. ⌜ (r ≡ entryOk config clock e) × (length (e .key .bytes) ≡ 64) ⌝ }
+    ensures { λ r. ⌜ (r ≡ entryOk config clock e) × (keySized (e .key) ≡ true) ⌝ }
 {
     let key = e.key;
     let state = e.state;
-    keys::no_key(key) & (e.touched == 0) & limits::is_nothing(state)
+    keys::is_no_key(key) & (e.touched == 0) & block_state::limits::is_nothing(state)
 }
 
 pub fn entry_ok(config: Config, clock: u64, e: Entry) -> bool
@@ -56,11 +55,9 @@ pub fn tag(e: Entry, i: u32) -> u32
     requires { ⌜ i < 16 ⌝ }
     ensures { λ r. ⌜ r ≡ tagOf e i ⌝ }
 {
-    let len = keys::size(e.key.len);
-    if e.used & (len <= 64) {
+    if e.used {
         let key = e.key;
-        let bytes = key.bytes;
-        return digest::fold(digest::digest(bytes, len));
+        return keys::tag(key);
     }
     i * 2
 }
@@ -76,9 +73,7 @@ pub fn clashes(e: Entry, f: Entry) -> bool
     }
     let a = e.key;
     let b = f.key;
-    let a_bytes = a.bytes;
-    let b_bytes = b.bytes;
-    keys::same_stored(a_bytes, keys::size(a.len), b_bytes, keys::size(b.len))
+    keys::same_key(a, b)
 }
 
 // ---- Expiry
@@ -120,12 +115,10 @@ fn empty_state() -> BlockState
 pub fn free_entry() -> Entry
     ensures { λ r. ⌜ r ≡ free ⌝ }
 {
+    let key = keys::no_key();
     let state = empty_state();
     Entry {
-        key: Key {
-            bytes: [0u8; 64],
-            len: 0,
-        },
+        key: key,
         used: false,
         touched: 0,
         state: state,
@@ -151,17 +144,15 @@ pub fn is_expired(used: bool, touched: u64, lifetime: u64, time: u64) -> bool
 // ---- The start of a call
 
 // The entry that a call starts from, of the one at the key's place in a swept row.
-pub fn start_from(e: Entry, key: &[u8]) -> Entry
-    requires { ⌜ length (now key) ≤ 64 ⌝ }
-    ensures { λ r. ⌜ r ≡ cond (e .used) e (inUse (stored (now (key .entry))) 0 nothing) ⌝ }
+pub fn start_from(e: Entry, key: Key) -> Entry
+    ensures { λ r. ⌜ r ≡ cond (e .used) e (inUse key 0 nothing) ⌝ }
 {
     if e.used {
         return e;
     }
-    let k = keys::stored_key(key);
     let state = empty_state();
     Entry {
-        key: k,
+        key: key,
         used: true,
         touched: 0,
         state: state,

@@ -12,7 +12,7 @@ use Rattle.config.specs.declared.Config.{Config}
 use Rattle.pieces.proofs.Tests.{ands, and-left, by-cases}
 use Rattle.block_state.proofs.Fits.{assembled-most}
 use Rattle.block_table.specs.declared.Table.{Table}
-use Rattle.keys.specs.Keys.{keyOk}
+use Rattle.keys.specs.Keys.{Name, keyOk}
 use Rattle.entries.specs.declared.Entry.{Entry}
 use Rattle.entries.specs.Entries.{entryOk}
 use Rattle.block_table.specs.Table.{tableOk, distinct, sweep, at}
@@ -77,7 +77,7 @@ module _ (c : Config) (s : Sight) (time : ℕ) (n : Lengths) where
 
 -- ---- the verdict on a table
 
-module _ (c : Config) (t : Table) (time : ℕ) (key : List ℕ) (n : Lengths) where
+module _ (c : Config) (t : Table) (time : ℕ) (key : Name) (n : Lengths) where
   abbrev verdict : Verdict
   verdict = verdictOf c t time key n
 
@@ -150,10 +150,10 @@ module _ (c : Config) (t : Table) (time : ℕ) (key : List ℕ) (n : Lengths) wh
 
 -- ---- what a place tells
 
-pub record AtPlace (c : Config) (t : Table) (time : ℕ) (key : List ℕ) (n : Lengths) (i : ℕ) : Type 0 where
+pub record AtPlace (c : Config) (t : Table) (time : ℕ) (key : Name) (n : Lengths) (i : ℕ) : Type 0 where
   pub is : i ≡ place key (sweep (c .lifetime) time (t .entries))
   pub below : i < 16
-  pub named : length key ≤ 64
+  pub named : keyOk key ≡ true
   pub headed : n .head ≤ 128
   -- the entry's pieces lie in the memories, which are small
   pub up : i * c .upload + c .upload ≤ n .upload
@@ -165,8 +165,8 @@ pub record AtPlace (c : Config) (t : Table) (time : ℕ) (key : List ℕ) (n : L
   -- what is assembled lies in its piece
   pub holds : length (t .entries) ≡ 16 → opened key (sweep (c .lifetime) time (t .entries)) .state .assembled .len ≤ c .upload
 
-pub at-place : (c : Config) (t : Table) (time : ℕ) (key : List ℕ) (n : Lengths) (i : ℕ) → verdictOf c t time key n ≡ Place i → AtPlace c t time key n i
-unfolding limitsOk memoriesOk messageOk keyOk
+pub at-place : (c : Config) (t : Table) (time : ℕ) (key : Name) (n : Lengths) (i : ℕ) → verdictOf c t time key n ≡ Place i → AtPlace c t time key n i
+unfolding limitsOk memoriesOk messageOk
 at-place c t time key n i h =
     let p = place-tells c t time key n i h in
     let l = p .limits in
@@ -177,7 +177,7 @@ at-place c t time key n i h =
     record {
       is = p .is;
       below = p .below;
-      named = leb-true (length key) 64 (search ands);
+      named = search ands;
       headed = leb-true (n .head) 128 (search ands);
       up = omega (arith, piece-order i 16 (c .upload) (p .below));
       down = omega (arith, piece-order i 16 (c .response) (p .below));
@@ -188,7 +188,7 @@ at-place c t time key n i h =
 
 -- ---- what is seen of the table at a place
 
-module _ (c : Config) (s : Sight) (time : ℕ) (key : List ℕ) (n : Lengths) (i : ℕ) (t : Table) (h : HasPlace c s time key n i t) where
+module _ (c : Config) (s : Sight) (time : ℕ) (key : Name) (n : Lengths) (i : ℕ) (t : Table) (h : HasPlace c s time key n i t) where
   abbrev told : Placed c t time key n i
   told = place-tells c t time key n i (h .1)
 

@@ -2,12 +2,11 @@
 -- the handler's two calls, nor of an export, cites this.
 use Prim.Native.Nat.{ℕ}
 use mathlib.Core.Bool.{Bool, cond, not, _&&_}
-use mathlib.Core.List.{List}
 use mathlib.Core.Path.{_≡_}
 use lib.Dec.{leb, ltb}
 use Rattle.config.specs.declared.Config.{Config}
 use Rattle.block_table.specs.declared.Table.{Table}
-use Rattle.keys.specs.Keys.{keyOk}
+use Rattle.keys.specs.Keys.{Name, keyOk}
 use Rattle.block_table.specs.Table.{tableOk, sweep}
 use Rattle.places.specs.declared.Place.{Place as Spot}
 use Rattle.places.specs.declared.Place.the-variants.{At, None, OffLimits}
@@ -27,7 +26,7 @@ lengths upload response bare payload head = record { upload = upload; response =
 unfoldable pub messageOk : ℕ → ℕ → ℕ → Bool
 messageOk bare payload head = leb bare 65535 && leb payload 65535 && leb head 128
 
-unfoldable pub limitsOk : Config → Table → List ℕ → Lengths → Bool
+unfoldable pub limitsOk : Config → Table → Name → Lengths → Bool
 limitsOk c t key n = configOk c && memoriesOk c (n .upload) (n .response) && keyOk key && messageOk (n .bare) (n .payload) (n .head) && tableOk c t
 
 -- What a place comes to; `early` says that the time is before the clock.
@@ -37,7 +36,7 @@ verdictAt early None = cond early (Refused 2) (Refused 3)
 verdictAt early (At i) = cond early (Refused 2) (Place i)
 
 -- Checks 1, 2 and 3, or the key's place in the swept row.
-unfoldable pub verdictOf : Config → Table → ℕ → List ℕ → Lengths → Verdict
+unfoldable pub verdictOf : Config → Table → ℕ → Name → Lengths → Verdict
 verdictOf c t time key n =
     cond (not (limitsOk c t key n)) (Refused 1) (verdictAt (ltb time (t .clock)) (placeOf key (sweep (c .lifetime) time (t .entries))))
 
@@ -48,5 +47,5 @@ verdictBy c s time n =
     (verdictAt (ltb time (s .clock)) (s .place))
 
 -- The table seen as `sight` has place i for the call.
-abbrev pub HasPlace : Config → Sight → ℕ → List ℕ → Lengths → ℕ → Table → Type 0
+abbrev pub HasPlace : Config → Sight → ℕ → Name → Lengths → ℕ → Table → Type 0
 HasPlace c sight time key n i t = Sees c time key t sight × (verdictOf c t time key n ≡ Place i)

@@ -1,3 +1,3 @@
 pub mod Lists
-pub mod Keys
 pub mod Turns
+pub mod Keys

@@ -11,7 +11,7 @@ use lib.Dec.{eqb}
 use borrow.Author.Tests.{eq-eqb, ne-eqb, eqb-true, eqb-false}
 use Rattle.keys.specs.declared.Key.{Key}
 use Rattle.keys.specs.Lists.{find, all}
-use Rattle.keys.specs.Keys.{same, keyOf}
+use Rattle.keys.specs.Keys.{Name, same}
 use Rattle.pieces.proofs.Tests.{and-left, and-right}
 
 module _ {A : Type 0} where
@@ -45,8 +45,13 @@ module _ {A : Type 0} where
 
 -- ---- keys
 
-module _ (a b : List ℕ) (i : ℕ) (equal r : Bool) where
-  pub same-go : i < length a → i < length b → (equal && same (drop i a) (drop i b)) ≡ r → (equal && eqb (getD a i 0) (getD b i 0) && same (drop (i + 1) a) (drop (i + 1) b)) ≡ r
+-- What Rattle has for the key of an entry past the end of a row.
+abbrev pub nilKey : Key
+nilKey = record { bytes = []; len = 0 }
+
+module _ (a b : Name) (i : ℕ) (equal r : Bool) where
+  pub same-go : i < length a → i < length b → (equal && same (drop i a) (drop i b)) ≡ r
+      → (equal && eqb (getD a i 0) (getD b i 0) && same (drop (i + 1) a) (drop (i + 1) b)) ≡ r
   unfolding same
   same-go h k was = turn equal (eqb (getD a i 0) (getD b i 0)) ∙ rw (drop-step a i 0 h, drop-step b i 0 k) at was
     where
@@ -62,16 +67,12 @@ module _ (a b : List ℕ) (i : ℕ) (equal r : Bool) where
       and-true true = refl
       and-true false = refl
 
-pub same-length : (a b : List ℕ) → (length a ≡ length b → ⊥) → same a b ≡ false
+pub same-length : (a b : Name) → (length a ≡ length b → ⊥) → same a b ≡ false
 unfolding same
 same-length [] [] n = absurd (n refl)
 same-length [] (y ∷ ys) n = refl
 same-length (x ∷ xs) [] n = refl
 same-length (x ∷ xs) (y ∷ ys) n = rw (same-length xs ys (λ e. n (ap suc e)), and-false)
-
-pub same-stored-as : (q : List ℕ) (k : Key) (n : ℕ) (b : Bool) → n ≡ k .len → b ≡ same q (take n (k .bytes)) → same q (keyOf k) ≡ b
-unfolding keyOf
-same-stored-as q k n b e h = rw (← e) (sym h)
 
 -- Bytes are all zeros exactly if their sum is 0.
 abbrev pub total : List ℕ → ℕ

@@ -1,11 +1,11 @@
-// A key, as a call names it and as an entry stores it: its limits, its bytes, and when two are the same.
+// A key, as a call names it and as an entry stores it: its limits, its bytes, its tag, and when two are the same. Only this crate looks inside one.
 ghost use mathlib.Core.Path.{_≡_};
-ghost use Prim.Native.Nat.{_≤_, _<_, _^_};
+ghost use mathlib.Core.Bool.{true};
+ghost use Prim.Native.Nat.{_≤_};
 ghost use lib.ListN.{length, take};
 ghost use lib.Dec.{eqb};
-ghost use Rattle.digest.specs.Digest.{digestOf, folded};
 ghost use Rattle.keys.specs.Lists.{all};
-ghost use Rattle.keys.specs.Keys.{same, keyOk, stored, isNoKey};
+ghost use Rattle.keys.specs.Keys.{same, keyOk, keyOf, storedOk, stored, noKey, isNoKey, keySized, tagOf, namedOf};
 
 #[repr(C)]
 pub struct Key {
@@ -13,29 +13,66 @@ pub struct Key {
     pub len: u8,
 }
 
-pub fn size(x: u8) -> usize
-    ensures { λ r. ⌜ (r ≡ x) × (r < 2 ^ 8) ⌝ }
-{
-    x as usize
+// A key as a call names it, copied once: whether it is within its limits, and then its tag, and the key as an entry stores it.
+pub struct NamedKey {
+    pub ok: bool,
+    pub tag: u32,
+    pub key: Key,
 }
 
-fn word(x: u8) -> u32
-    ensures { λ r. ⌜ (r ≡ x) × (r < 2 ^ 8) ⌝ }
-{
-    x as u32
-}
+// ---- Limits
 
-fn small(x: usize) -> u8
-    requires { ⌜ x ≤ 64 ⌝ }
-    ensures { λ r. ⌜ r ≡ x ⌝ }
-{
-    x as u8
-}
-
-pub fn key_ok(key: &[u8]) -> bool
+fn key_ok(key: &[u8]) -> bool
     ensures { λ r. ⌜ r ≡ keyOk (now (key .entry)) ⌝ }
 {
     (1 <= key.len()) & (key.len() <= 64)
+}
+
+pub fn stored_ok(key: Key) -> bool
+    ensures { λ r. ⌜ r ≡ storedOk key ⌝ }
+{
+    (1 <= key.len) & (key.len <= 64)
+}
+
+// ---- The key of a free entry
+
+pub fn no_key() -> Key
+    ensures { λ r. ⌜ r ≡ noKey ⌝ }
+{
+    Key {
+        bytes: [0u8; 64],
+        len: 0,
+    }
+}
+
+// Summed in 32 bits, since such a loop is vectorised.
+fn zero_bytes(bytes: [u8; 64]) -> bool
+    ensures { λ r. ⌜ (r ≡ all (λ b. eqb b 0) bytes) × (length bytes ≡ 64) ⌝ }
+{
+    let mut sum = 0;
+    let mut i = 0;
+    while i < 64 {
+        sum += wide::u32_of_u8(bytes[i]);
+        i += 1;
+    }
+    sum == 0
+}
+
+pub fn is_no_key(key: Key) -> bool
+    ensures { λ r. ⌜ (r ≡ isNoKey key) × (keySized key ≡ true) ⌝ }
+{
+    let bytes = key.bytes;
+    zero_bytes(bytes) & (key.len == 0)
+}
+
+// ---- The bytes of a stored key: the first `len`, all of them where `len` is off the limits
+
+// How many they are. Its contract gives the proof the length of the array, too.
+fn cut(bytes: [u8; 64], len: u8) -> usize
+    ensures { λ r. ⌜ (take r bytes ≡ take len bytes) × (r ≤ 64) × (length bytes ≡ 64) ⌝ }
+{
+    let n = wide::usize_of_u8(len);
+    if n <= 64 { n } else { 64 }
 }
 
 // Each byte is looked at, since a loop that ends early is not vectorised.
@@ -54,44 +91,32 @@ pub fn same_bytes(a: &[u8], b: &[u8]) -> bool
     equal
 }
 
-// The key is the first `len` of the stored bytes, all of them where `len` is off the limits.
-pub fn same_key(key: &[u8], bytes: [u8; 64], len: usize) -> bool
-    ensures { λ r. ⌜ r ≡ same (now (key .entry)) (take len bytes) ⌝ }
+// The stored key is the one that these bytes name.
+pub fn same_as(key: &[u8], stored: Key) -> bool
+    ensures { λ r. ⌜ r ≡ same (now (key .entry)) (keyOf stored) ⌝ }
 {
-    if len <= 64 {
-        return same_bytes(key, &bytes[..len]);
-    }
-    same_bytes(key, &bytes)
+    let bytes = stored.bytes;
+    let n = cut(bytes, stored.len);
+    same_bytes(key, &bytes[..n])
 }
 
-pub fn same_stored(a: [u8; 64], a_len: usize, b: [u8; 64], b_len: usize) -> bool
-    ensures { λ r. ⌜ r ≡ same (take «a_len» a) (take «b_len» b) ⌝ }
+pub fn same_key(a: Key, b: Key) -> bool
+    ensures { λ r. ⌜ r ≡ same (keyOf a) (keyOf b) ⌝ }
 {
-    if a_len <= 64 {
-        return same_key(&a[..a_len], b, b_len);
-    }
-    same_key(&a, b, b_len)
+    let bytes = a.bytes;
+    let n = cut(bytes, a.len);
+    same_as(&bytes[..n], b)
 }
 
-// Summed in 32 bits, since such a loop is vectorised.
-fn zero_bytes(bytes: [u8; 64]) -> bool
-    ensures { λ r. ⌜ (r ≡ all (λ b. eqb b 0) bytes) × (length bytes ≡ 64) ⌝ }
-{
-    let mut sum = 0;
-    let mut i = 0;
-    while i < 64 {
-        sum += word(bytes[i]);
-        i += 1;
-    }
-    sum == 0
-}
-
-pub fn no_key(key: Key) -> bool
-    ensures { λ r. ⌜ (r ≡ isNoKey key) × (length (key .bytes) ≡ 64) ⌝ }
+// Keys that are the same have one tag, which is odd.
+pub fn tag(key: Key) -> u32
+    ensures { λ r. ⌜ r ≡ tagOf (keyOf key) ⌝ }
 {
     let bytes = key.bytes;
-    zero_bytes(bytes) & (key.len == 0)
+    digest::fold(digest::digest(bytes, cut(bytes, key.len)))
 }
+
+// ---- A key as a call names it
 
 fn padded(key: &[u8]) -> [u8; 64]
     requires { ⌜ length (now key) ≤ 64 ⌝ }
@@ -106,7 +131,14 @@ fn padded(key: &[u8]) -> [u8; 64]
     bytes
 }
 
-pub fn stored_key(key: &[u8]) -> Key
+fn small(x: usize) -> u8
+    requires { ⌜ x ≤ 64 ⌝ }
+    ensures { λ r. ⌜ r ≡ x ⌝ }
+{
+    x as u8
+}
+
+fn stored_key(key: &[u8]) -> Key
     requires { ⌜ length (now key) ≤ 64 ⌝ }
     ensures { λ r. ⌜ r ≡ stored (now (key .entry)) ⌝ }
 {
@@ -117,11 +149,23 @@ pub fn stored_key(key: &[u8]) -> Key
     }
 }
 
-// The tag of an entry in use for this key.
-pub fn key_tag(key: &[u8]) -> u32
-    requires { ⌜ length (now key) ≤ 64 ⌝ }
-    ensures { λ r. ⌜ r ≡ folded (digestOf (now (key .entry))) ⌝ }
+// The one place where the bytes of a call's key are read.
+pub fn named(key: &[u8]) -> NamedKey
+    ensures { λ r. ⌜ r ≡ namedOf (now (key .entry)) ⌝ }
 {
-    let bytes = padded(key);
-    digest::fold(digest::digest(bytes, key.len()))
+    if key_ok(key) {
+        let k = stored_key(key);
+        let own = tag(k);
+        return NamedKey {
+            ok: true,
+            tag: own,
+            key: k,
+        };
+    }
+    let none = no_key();
+    NamedKey {
+        ok: false,
+        tag: 0,
+        key: none,
+    }
 }

@@ -6,11 +6,12 @@ use Prim.Native.Nat.{ℕ, _<_}
 use native.Mathlib.Omega.{arith}
 use lib.ListN.{length, getD}
 use lib.Dec.{eqb}
-use Rattle.digest.specs.Digest.{digestOf, folded, pairs}
+use Rattle.digest.specs.Digest.{pairs}
 use Rattle.digest.proofs.Counts.{told-apart}
 use Rattle.config.specs.declared.Config.{Config}
 use Rattle.block_table.specs.declared.Table.{Table}
 use Rattle.keys.specs.Lists.{find, all}
+use Rattle.keys.specs.Keys.{Name, tagOf}
 use Rattle.entries.specs.Entries.{entryOk}
 use Rattle.block_table.specs.Table.{distinct, tableOk, sweep}
 use Rattle.places.specs.declared.Place.{Place}
@@ -23,7 +24,7 @@ use Rattle.block_table.proofs.Turns.{nil}
 use Rattle.places.proofs.Unswept.{place-kept, place-new}
 use Rattle.places.proofs.Tagged.{tagged-holds, tagged-none}
 
-module _ (c : Config) (t : Table) (k : List ℕ) (lifetime time : ℕ) where
+module _ (c : Config) (t : Table) (k : Name) (lifetime time : ℕ) where
   abbrev there : Place
   there = placeOf k (sweep lifetime time (t .entries))
 
@@ -43,24 +44,24 @@ module _ (c : Config) (t : Table) (k : List ℕ) (lifetime time : ℕ) where
   unfolding placeOf
   by-tags len h apart i is =
       let told = told-apart (tagsFrom 0 (t .entries)) (tags-length 0 (t .entries) ∙ len) apart in
-      sym (by-bytes true h (distinct-by c (t .clock) (t .entries) 0 h told) ∙ ap (λ (z : ℕ). standing z) is)
+      sym (by-bytes true h (distinct-by (t .entries) 0 told) ∙ ap (λ (z : ℕ). standing z) is)
 
   -- by the first entry with the key's own tag
-  module _ (row : List ℕ) (own i : ℕ) (len : length (t .entries) ≡ 16) (h : all (entryOk c (t .clock)) (t .entries) ≡ true) (tags : row ≡ tagsFrom 0 (t .entries))
-      (apart : eqb (pairs row row) 16 ≡ true) (tag : own ≡ folded (digestOf k)) (first : i ≡ find (λ x. eqb x own) row) where
+  module _ (row : List ℕ) (own i : ℕ) (len : length (t .entries) ≡ 16) (h : all (entryOk c (t .clock)) (t .entries) ≡ true)
+      (tags : row ≡ tagsFrom 0 (t .entries)) (apart : eqb (pairs row row) 16 ≡ true) (tag : own ≡ tagOf k) (first : i ≡ find (λ x. eqb x own) row) where
     told : eqb (pairs (tagsFrom 0 (t .entries)) (tagsFrom 0 (t .entries))) 16 ≡ true
     told = rw tags at apart
 
-    at-tag : i ≡ find (λ x. eqb x (folded (digestOf k))) (tagsFrom 0 (t .entries))
+    at-tag : i ≡ find (λ x. eqb x (tagOf k)) (tagsFrom 0 (t .entries))
     at-tag = rw (tags, tag) at first
 
     pub by-own : (held : Bool) → held ≡ holdsLive lifetime time k (getD (t .entries) i nil) → held ≡ true → i < 16 → standing i ≡ found
     by-own held e y below =
-        let f = tagged-holds c (t .clock) lifetime time k (t .entries) i h at-tag (omega arith) (sym e ∙ y) in
+        let f = tagged-holds lifetime time k (t .entries) i at-tag (omega arith) (sym e ∙ y) in
         by-tags len h told i (place-kept k lifetime time (t .entries) i f below)
 
     pub by-none : (i < 16 → holdsLive lifetime time k (getD (t .entries) i nil) ≡ false) → standing (find (notLive lifetime time) (t .entries)) ≡ found
     by-none n =
         let apart = told-apart (tagsFrom 0 (t .entries)) (tags-length 0 (t .entries) ∙ len) told in
-        let f = tagged-none c (t .clock) lifetime time k (t .entries) i h at-tag apart (λ below. n (omega arith)) in
+        let f = tagged-none lifetime time k (t .entries) i at-tag apart (λ below. n (omega arith)) in
         by-tags len h told _ (place-new k lifetime time (t .entries) 16 (sym (f ∙ len)) (omega arith))

@@ -7,11 +7,11 @@ use native.Mathlib.Omega.{arith}
 use lib.ListN.{length, getD, drop, drop-of-length-le}
 use lib.Dec.{leb, ltb, eqb}
 use borrow.Author.Tests.{lt-ltb, lt-leb, leb-true, ltb-true}
-use Rattle.digest.specs.Digest.{digestOf, folded, pairs}
+use Rattle.digest.specs.Digest.{pairs}
 use Rattle.config.specs.declared.Config.{Config}
 use Rattle.pieces.proofs.Tests.{and-left, and-right, by-cases}
 use Rattle.keys.specs.Lists.{find, all}
-use Rattle.keys.specs.Keys.{keyOk}
+use Rattle.keys.specs.Keys.{Name, keyOk, tagOf}
 use Rattle.keys.proofs.Turns.{drop-step, all-go, all-end, find-go, find-here}
 use Rattle.entries.specs.declared.Entry.{Entry}
 use Rattle.entries.specs.Entries.{free as unheld, entryOk}
@@ -69,8 +69,8 @@ module _ (c : Config) (clock time : ℕ) (l : List Entry) (named : Bool) where
     pub free : s .free ≡ find gone l
     pub long : all sized l ≡ true
 
-  pub walk-starts : (b : Bool) → b ≡ named → Walked (record { ok = b; freed = false; free = 16 }) 0
-  walk-starts b e = record { ok = rw e; freed = refl; free = omega arith; most = omega arith; long = refl }
+  pub walk-starts : Walked (record { ok = named; freed = false; free = 16 }) 0
+  walk-starts = record { ok = refl; freed = refl; free = omega arith; most = omega arith; long = refl }
 
   module _ (s : Seen) (i : ℕ) (was : Walked s i) where
     module _ (h : i < length l) (sixteen : length l ≡ 16) where
@@ -121,7 +121,7 @@ module _ (c : Config) (clock time : ℕ) (l : List Entry) (named : Bool) where
 
 -- ---- the place
 
-module _ (c : Config) (t : Table) (k : List ℕ) (time : ℕ) where
+module _ (c : Config) (t : Table) (k : Name) (time : ℕ) where
   abbrev row : List Entry
   row = t .entries
 
@@ -133,29 +133,39 @@ module _ (c : Config) (t : Table) (k : List ℕ) (time : ℕ) where
   off true some n e h = rw n (sym (off-each c t k (c .lifetime) time (e ∙ h)))
   off false some n e h = rw n
 
-  module _ (s : Seen) (tags : List ℕ) (own first : ℕ) (held : Bool) (sixteen : length row ≡ 16) (ok : s .ok ≡ (keyOk k && each)) (free : s .free ≡ find (notLive (c .lifetime) time) row)
-      (are : tags ≡ tagsFrom 0 row) (tag : own ≡ cond (keyOk k) (folded (digestOf k)) 0) (is : first ≡ find (λ x. eqb x own) tags)
-      (holds : held ≡ holdsLive (c .lifetime) time k (getD row (index first) nil)) where
-    by-tag : (keyOk k && each) ≡ true → eqb (pairs tags tags) 16 ≡ true → (b : Bool) → (ltb first 16 && held) ≡ b → standing (cond b first (s .free)) ≡ placeIn c time k t
-    unfolding placeIn
-    by-tag h apart true y =
-        let below : first < 16 = ltb-true first 16 (and-left (ltb first 16) held y) in
-        rw (and-left (keyOk k) each h)
-        (by-own c t k (c .lifetime) time tags own first sixteen (and-right (keyOk k) each h) are apart (rw (and-left (keyOk k) each h) at tag) is held (rw (lt-ltb first 16 below) at holds)
-        (and-right (ltb first 16) held y) below)
-    by-tag h apart false n =
-        rw (and-left (keyOk k) each h, free)
-        (by-none c t k (c .lifetime) time tags own first sixteen (and-right (keyOk k) each h) are apart (rw (and-left (keyOk k) each h) at tag) is
-        (λ below. sym (rw (lt-ltb first 16 below) at holds) ∙ rw (lt-ltb first 16 below) at n))
+  -- q is the key as the code has it, and `own` its tag
+  module _ (q : Name) (s : Seen) (tags : List ℕ) (own first : ℕ) (held : Bool) (sixteen : length row ≡ 16) (ok : s .ok ≡ (keyOk k && each))
+      (free : s .free ≡ find (notLive (c .lifetime) time) row) (read : keyOk k ≡ true → q ≡ k) (tag : keyOk k ≡ true → own ≡ tagOf k)
+      (are : tags ≡ tagsFrom 0 row) (is : first ≡ find (λ x. eqb x own) tags) (holds : held ≡ holdsLive (c .lifetime) time q (getD row (index first) nil)) where
+    -- where all is within the limits
+    module _ (h : (keyOk k && each) ≡ true) where
+      key-ok : keyOk k ≡ true
+      key-ok = and-left (keyOk k) each h
 
-    -- where two tags are equal, byte by byte
-    by-all : (keyOk k && each) ≡ true → cond (distinct row) (placeOf k (sweep (c .lifetime) time row)) OffLimits ≡ placeIn c time k t
-    unfolding placeIn
-    by-all h = rw (and-left (keyOk k) each h) (sym (by-bytes c t k (c .lifetime) time (distinct row) (and-right (keyOk k) each h) refl))
+      row-ok : each ≡ true
+      row-ok = and-right (keyOk k) each h
+
+      holds-at : first < 16 → held ≡ holdsLive (c .lifetime) time k (getD row first nil)
+      holds-at below = rw (lt-ltb first 16 below, read key-ok) at holds
+
+      by-tag : eqb (pairs tags tags) 16 ≡ true → (b : Bool) → (ltb first 16 && held) ≡ b → standing (cond b first (s .free)) ≡ placeIn c time k t
+      unfolding placeIn
+      by-tag apart true y =
+          let below : first < 16 = ltb-true first 16 (and-left (ltb first 16) held y) in
+          rw key-ok
+          (by-own c t k (c .lifetime) time tags own first sixteen row-ok are apart (tag key-ok) is held (holds-at below) (and-right (ltb first 16) held y) below)
+      by-tag apart false n =
+          rw (key-ok, free)
+          (by-none c t k (c .lifetime) time tags own first sixteen row-ok are apart (tag key-ok) is (λ below. sym (holds-at below) ∙ rw (lt-ltb first 16 below) at n))
+
+      -- where two tags are equal, byte by byte
+      by-all : cond (distinct row) (placeOf q (sweep (c .lifetime) time row)) OffLimits ≡ placeIn c time k t
+      unfolding placeIn
+      by-all = rw (key-ok, read key-ok) (sym (by-bytes c t k (c .lifetime) time (distinct row) row-ok refl))
 
     -- the quick look tells the place, or what is found byte by byte is
     pub place-seen : (apart : Bool) → apart ≡ eqb (pairs tags tags) 16
-        → settled (quickPlace s apart first held) (cond (distinct row) (placeOf k (sweep (c .lifetime) time row)) OffLimits) ≡ placeIn c time k t
+        → settled (quickPlace s apart first held) (cond (distinct row) (placeOf q (sweep (c .lifetime) time row)) OffLimits) ≡ placeIn c time k t
     place-seen apart told =
         by-cases (s .ok)
         (λ y. by-cases apart (λ z. rw (y, z) (by-tag (sym ok ∙ y) (sym told ∙ z) (ltb first 16 && held) refl)) (λ z. rw (y, z) (by-all (sym ok ∙ y))))

@@ -12,7 +12,7 @@ use Rattle.block_state.specs.State.{nothing}
 use Rattle.pieces.proofs.Tests.{false-is-not, refute, clash-of, by-cases}
 use Rattle.entries.specs.declared.Entry.{Entry}
 use Rattle.keys.specs.Lists.{find}
-use Rattle.keys.specs.Keys.{same, keyOf, stored}
+use Rattle.keys.specs.Keys.{Name, same, keyOf, stored}
 use Rattle.entries.specs.Entries.{inUse, free, holds, unused}
 use Rattle.block_table.specs.Table.{at}
 use Rattle.places.specs.Places.{place, opened}
@@ -28,7 +28,7 @@ unused-first l =
     (λ y. not-true (at l (find unused l) .used) (find-hit unused free l (ltb-true (find unused l) (length l) y)))
     (λ n. rw (List·getD-eq-default l free {n = find unused l} (ltb-false (find unused l) (length l) n)))
 
-module _ (k : List ℕ) (l : List Entry) where
+module _ (k : Name) (l : List Entry) where
   -- the entry that a call starts from: the one at the place, or a new one
   pub opened-own : at l (place k l) .used ≡ true → opened k l ≡ at l (place k l)
   unfolding opened
@@ -38,7 +38,7 @@ module _ (k : List ℕ) (l : List Entry) where
   unfolding opened
   opened-new h = rw h
 
-module _ (k : List ℕ) (l : List Entry) (long : length l ≡ 16) where
+module _ (k : Name) (l : List Entry) (long : length l ≡ 16) where
   -- the place is an entry, or 16
   pub place-most : place k l ≤ 16
   unfolding place
@@ -98,7 +98,7 @@ module _ (k : List ℕ) (l : List Entry) (long : length l ≡ 16) where
       (λ h. place-new h j b)
 
   -- another key's entry is not the place
-  pub elsewhere : (q : List ℕ) → same q k ≡ false → (i : ℕ) → holds q (at l i) ≡ true → i ≢ place k l
+  pub elsewhere : (q : Name) → same q k ≡ false → (i : ℕ) → holds q (at l i) ≡ true → i ≢ place k l
   elsewhere q ne i h e =
       by-cases (at l (place k l) .used)
       (λ y. clash-of (same q k) (rw (holds-one q k (at l i) h (rw e (place-holds y))) (same-refl k)) ne)

@@ -11,7 +11,7 @@ use Rattle.pieces.proofs.Tests.{by-cases}
 use Rattle.block_state.proofs.Fits.{StateFits, nothing-fits}
 use Rattle.entries.specs.declared.Entry.{Entry}
 use Rattle.block_table.specs.declared.Table.{Table}
-use Rattle.keys.specs.Keys.{keyOk}
+use Rattle.keys.specs.Keys.{Name, keyOk}
 use Rattle.entries.specs.Entries.{inUse, entryOk}
 use Rattle.block_table.specs.Table.{at, tableWith}
 use Rattle.places.specs.Places.{place, opened}
@@ -21,7 +21,7 @@ use Rattle.block_table.proofs.Row.{at-set, unique-set}
 use Rattle.places.proofs.Places.{others, opened-own, opened-new, opened-key}
 use Rattle.block_table.proofs.TableFits.{TableFits, row, row-length, row-unique, row-ok}
 
-module _ (c : Config) (t : Table) (time : ℕ) (f : TableFits c t) (sixteen : length (t .entries) ≡ 16) (later : t .clock ≤ time) (k : List ℕ) (ok : keyOk k ≡ true) (p : place k (row c t time) < 16) where
+module _ (c : Config) (t : Table) (time : ℕ) (f : TableFits c t) (sixteen : length (t .entries) ≡ 16) (later : t .clock ≤ time) (k : Name) (ok : keyOk k ≡ true) (p : place k (row c t time) < 16) where
   -- the entry that the call starts from
   pub opened-fits : EntryFits c time (opened k (row c t time))
   opened-fits =

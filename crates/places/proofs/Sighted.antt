@@ -1,12 +1,12 @@
 -- Laws of what a call sees of the table. Assumes nothing.
 use Prim.Native.Nat.{ℕ, _<_}
 use mathlib.Core.Path.{_≡_, ap, _∙_}
-use mathlib.Core.List.{List}
 use native.Mathlib.Omega.{arith}
 use lib.Dec.{ltb}
 use borrow.Author.Tests.{ltb-true}
 use Rattle.pieces.proofs.Tests.{by-cases}
 use Rattle.config.specs.declared.Config.{Config}
+use Rattle.keys.specs.Keys.{Name}
 use Rattle.block_table.specs.declared.Table.{Table}
 use Rattle.block_table.specs.Table.{tableWith}
 use Rattle.block_table.proofs.Changed.{with-own}
@@ -20,7 +20,7 @@ below (At i) = by-cases (ltb i 16) (λ y. rw y (ltb-true i 16 y)) (λ n. rw n (o
 below None = omega arith
 below OffLimits = omega arith
 
-module _ (c : Config) (time : ℕ) (key : List ℕ) (t : Table) (s : Sight) (sees : Sees c time key t s) where
+module _ (c : Config) (time : ℕ) (key : Name) (t : Table) (s : Sight) (sees : Sees c time key t s) where
   pub seen-below : s .at < 16
   unfolding sightAt
   seen-below = rw (ap (λ (z : Sight). z .at) (sees .0)) (below (placeIn c time key t))

@@ -7,16 +7,15 @@ use native.Mathlib.Omega.{arith}
 use lib.ListN.{length, getD}
 use lib.Dec.{eqb}
 use borrow.Author.Tests.{eqb-true, eqb-false, eq-eqb}
-use Rattle.digest.specs.Digest.{digestOf, folded, times}
+use Rattle.digest.specs.Digest.{times}
 use Rattle.digest.proofs.Counts.{Apart}
-use Rattle.config.specs.declared.Config.{Config}
 use Rattle.pieces.proofs.Tests.{by-cases}
 use Rattle.entries.specs.declared.Entry.{Entry}
-use Rattle.keys.specs.Lists.{find, all}
-use Rattle.entries.specs.Entries.{entryOk}
+use Rattle.keys.specs.Lists.{find}
+use Rattle.keys.specs.Keys.{Name, tagOf}
 use Rattle.entries.specs.Quick.{holdsLive}
 use Rattle.block_table.specs.Quick.{tagsFrom}
-use Rattle.keys.proofs.Lists.{find-hit, find-before, find-at-most, find-is, find-none, all-at}
+use Rattle.keys.proofs.Lists.{find-hit, find-before, find-at-most, find-is, find-none}
 use Rattle.entries.proofs.Quick.{untagged}
 use Rattle.block_table.proofs.Quick.{tags-at, tags-length}
 use Rattle.block_table.proofs.Turns.{nil}
@@ -39,31 +38,32 @@ one-place (x ∷ xs) a (suc i) (suc j) hi hj e = ap suc (one-place xs (a .1) i j
 
 -- ---- the key's entry, by its tag
 
-module _ (c : Config) (clock lifetime time : ℕ) (k : List ℕ) (l : List Entry) (i : ℕ) (ok : all (entryOk c clock) l ≡ true)
-    (first : i ≡ find (λ x. eqb x (folded (digestOf k))) (tagsFrom 0 l)) where
-  another : (j : ℕ) → j < length l → eqb (getD (tagsFrom 0 l) j 0) (folded (digestOf k)) ≡ false → holdsLive lifetime time k (getD l j nil) ≡ false
+module _ (lifetime time : ℕ) (k : Name) (l : List Entry) (i : ℕ) (first : i ≡ find (λ x. eqb x (tagOf k)) (tagsFrom 0 l)) where
+  another : (j : ℕ) → j < length l → eqb (getD (tagsFrom 0 l) j 0) (tagOf k) ≡ false → holdsLive lifetime time k (getD l j nil) ≡ false
   another j b n =
-      untagged c clock k (getD l j nil) (0 + j) lifetime time (all-at (entryOk c clock) nil l ok j b)
-      (λ t. eqb-false (getD (tagsFrom 0 l) j 0) (folded (digestOf k)) n (tags-at l j 0 nil b ∙ t))
+      untagged k (getD l j nil) (0 + j) lifetime time
+      (λ t. eqb-false (getD (tagsFrom 0 l) j 0) (tagOf k) n (tags-at l j 0 nil b ∙ t))
 
   -- the first entry with the key's tag holds it
   pub tagged-holds : i < length l → holdsLive lifetime time k (getD l i nil) ≡ true → i ≡ find (holdsLive lifetime time k) l
   tagged-holds b h =
       sym (find-is (holdsLive lifetime time k) nil l i b h
-      (λ j q. another j (omega arith) (find-before (λ x. eqb x (folded (digestOf k))) 0 (tagsFrom 0 l) j (omega arith))))
+      (λ j q. another j (omega arith) (find-before (λ x. eqb x (tagOf k)) 0 (tagsFrom 0 l) j (omega arith))))
 
   -- it does not, or there is none: so no entry does
   pub tagged-none : Apart (tagsFrom 0 l) → (i < length l → holdsLive lifetime time k (getD l i nil) ≡ false) → find (holdsLive lifetime time k) l ≡ length l
   tagged-none apart h =
       find-none (holdsLive lifetime time k) nil l (λ j b.
-      by-cases (eqb (getD (tagsFrom 0 l) j 0) (folded (digestOf k)))
-      (λ y. own j b y (find-at-most (λ x. eqb x (folded (digestOf k))) 0 (tagsFrom 0 l) j (rw (tags-length 0 l) b) y))
+      by-cases (eqb (getD (tagsFrom 0 l) j 0) (tagOf k))
+      (λ y. own j b y (find-at-most (λ x. eqb x (tagOf k)) 0 (tagsFrom 0 l) j (rw (tags-length 0 l) b) y))
       (another j b))
     where
-      own : (j : ℕ) → j < length l → eqb (getD (tagsFrom 0 l) j 0) (folded (digestOf k)) ≡ true → find (λ x. eqb x (folded (digestOf k))) (tagsFrom 0 l) ≤ j
+      own : (j : ℕ) → j < length l → eqb (getD (tagsFrom 0 l) j 0) (tagOf k) ≡ true → find (λ x. eqb x (tagOf k)) (tagsFrom 0 l) ≤ j
           → holdsLive lifetime time k (getD l j nil) ≡ false
       own j b y m =
           let below : i < length l = omega arith in
-          let hit : eqb (getD (tagsFrom 0 l) i 0) (folded (digestOf k)) ≡ true = rw first (find-hit (λ x. eqb x (folded (digestOf k))) 0 (tagsFrom 0 l) (omega (arith, tags-length 0 l))) in
-          let e : i ≡ j = one-place (tagsFrom 0 l) apart i j (rw (tags-length 0 l) below) (rw (tags-length 0 l) b) (eqb-true _ _ hit ∙ sym (eqb-true _ _ y)) in
+          let hit : eqb (getD (tagsFrom 0 l) i 0) (tagOf k) ≡ true =
+          rw first (find-hit (λ x. eqb x (tagOf k)) 0 (tagsFrom 0 l) (omega (arith, tags-length 0 l))) in
+          let e : i ≡ j =
+          one-place (tagsFrom 0 l) apart i j (rw (tags-length 0 l) below) (rw (tags-length 0 l) b) (eqb-true _ _ hit ∙ sym (eqb-true _ _ y)) in
           rw (← e) (h below)

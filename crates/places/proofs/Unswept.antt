@@ -6,6 +6,7 @@ use Prim.Native.Nat.{ℕ, _≤_, _<_}
 use borrow.Author.Tests.{lt-ltb, le-ltb}
 use Rattle.entries.specs.declared.Entry.{Entry}
 use Rattle.keys.specs.Lists.{find}
+use Rattle.keys.specs.Keys.{Name}
 use Rattle.entries.specs.Entries.{holds, swept, unused}
 use Rattle.block_table.specs.Table.{sweep}
 use Rattle.places.specs.Places.{place}
@@ -16,7 +17,7 @@ find-swept : (p q : Entry → Bool) (lifetime time : ℕ) → ((e : Entry) → p
 find-swept p q lifetime time is [] = refl
 find-swept p q lifetime time is (e ∷ rest) = rw (is e, find-swept p q lifetime time is rest)
 
-module _ (k : List ℕ) (lifetime time : ℕ) (l : List Entry) where
+module _ (k : Name) (lifetime time : ℕ) (l : List Entry) where
   pub find-key-swept : find (holds k) (sweep lifetime time l) ≡ find (holdsLive lifetime time k) l
   unfolding sweep
   find-key-swept = find-swept (holds k) (holdsLive lifetime time k) lifetime time (holds-swept k lifetime time) l

@@ -2,12 +2,11 @@
 use Prim.Native.Nat.{ℕ}
 use mathlib.Core.Bool.{Bool, true, cond, not, _&&_, _||_}
 use mathlib.Core.Path.{_≡_}
-use mathlib.Core.List.{List}
 use lib.ListN.{length}
 use lib.Dec.{ltb, leb}
 use Rattle.config.specs.declared.Config.{Config}
 use Rattle.keys.specs.Lists.{all}
-use Rattle.keys.specs.Keys.{keyOk}
+use Rattle.keys.specs.Keys.{Name, keyOk}
 use Rattle.entries.specs.declared.Entry.{Entry}
 use Rattle.entries.specs.Entries.{entryOk}
 use Rattle.entries.specs.Quick.{notLive, sized, unexpired}
@@ -22,7 +21,7 @@ use Rattle.places.specs.declared.Quick.the-variants.{Sure, TagsEqual}
 use Rattle.places.specs.Places.{standing, placeOf}
 
 -- The key's place in the row that a sweep leaves.
-unfoldable pub placeIn : Config → ℕ → List ℕ → Table → Place
+unfoldable pub placeIn : Config → ℕ → Name → Table → Place
 placeIn c time k t = cond (keyOk k && tableOk c t) (placeOf k (sweep (c .lifetime) time (t .entries))) OffLimits
 
 -- An entry's index, which is below 16; else the first.
@@ -47,7 +46,7 @@ sightAt c time t p =
     }
 
 -- The sight of the table for a call with this key; and what the types give of a row: sixteen entries, and 64 key bytes in each free one.
-abbrev pub Sees : Config → ℕ → List ℕ → Table → Sight → Type 0
+abbrev pub Sees : Config → ℕ → Name → Table → Sight → Type 0
 Sees c time k t s = (s ≡ sightAt c time t (placeIn c time k t)) × (length (t .entries) ≡ 16) × (all sized (t .entries) ≡ true)
 
 -- What is seen once entry i is looked at.

@@ -2,14 +2,15 @@
 use block_table::Table;
 use config::Config;
 use entries::Entry;
+use keys::Key;
+use keys::NamedKey;
 ghost use mathlib.Core.Path.{_≡_};
 ghost use mathlib.Core.Bool.{true, cond};
 ghost use Prim.Native.Nat.{_<_};
 ghost use lib.ListN.{length};
 ghost use lib.Dec.{eqb};
-ghost use Rattle.digest.specs.Digest.{digestOf, folded};
 ghost use Rattle.keys.specs.Lists.{find};
-ghost use Rattle.keys.specs.Keys.{keyOk};
+ghost use Rattle.keys.specs.Keys.{Name, keyOf, namedOf};
 ghost use Rattle.block_table.specs.Table.{distinct, sweep};
 ghost use Rattle.places.specs.declared.Place.the-variants.{OffLimits};
 ghost use Rattle.places.specs.Places.{place, standing, placeOf};
@@ -57,21 +58,20 @@ fn narrow(x: usize) -> u32
 }
 
 // The entry is live and holds the key.
-fn holds_live(e: Entry, lifetime: u64, time: u64, key: &[u8]) -> bool
-    ensures { λ r. ⌜ r ≡ holdsLive lifetime time (now (key .entry)) e ⌝ }
+fn holds_live(e: Entry, lifetime: u64, time: u64, key: Key) -> bool
+    ensures { λ r. ⌜ r ≡ holdsLive lifetime time (keyOf key) e ⌝ }
 {
     if entries::is_live(e.used, e.touched, lifetime, time) {
         let stored = e.key;
-        let bytes = stored.bytes;
-        return keys::same_key(key, bytes, keys::size(stored.len));
+        return keys::same_key(key, stored);
     }
     false
 }
 
 // ---- Byte by byte, which is slow: only where two tags are equal
 
-fn find_key(entries: [Entry; 16], lifetime: u64, time: u64, key: &[u8]) -> usize
-    ensures { λ r. ⌜ r ≡ find (holdsLive lifetime time (now (key .entry))) entries ⌝ }
+fn find_key(entries: [Entry; 16], lifetime: u64, time: u64, key: Key) -> usize
+    ensures { λ r. ⌜ r ≡ find (holdsLive lifetime time (keyOf key)) entries ⌝ }
 {
     let mut i = 0;
     while i < 16 {
@@ -98,8 +98,8 @@ fn find_free(entries: [Entry; 16], lifetime: u64, time: u64) -> usize
 }
 
 // The place of the key in the row that a sweep would leave, found without building that row; 16 if there is none.
-fn place_of(entries: [Entry; 16], lifetime: u64, time: u64, key: &[u8]) -> usize
-    ensures { λ r. ⌜ r ≡ place (now (key .entry)) (sweep lifetime time entries) ⌝ }
+fn place_of(entries: [Entry; 16], lifetime: u64, time: u64, key: Key) -> usize
+    ensures { λ r. ⌜ r ≡ place (keyOf key) (sweep lifetime time entries) ⌝ }
 {
     let i = find_key(entries, lifetime, time, key);
     if i < 16 {
@@ -115,8 +115,8 @@ fn standing(i: usize) -> Place
 }
 
 // The same as a place; off its limits if two entries in use have one key.
-fn close_place(entries: [Entry; 16], lifetime: u64, time: u64, key: &[u8]) -> Place
-    ensures { λ r. ⌜ r ≡ cond (distinct entries) (placeOf (now (key .entry)) (sweep lifetime time entries)) OffLimits ⌝ }
+fn close_place(entries: [Entry; 16], lifetime: u64, time: u64, key: Key) -> Place
+    ensures { λ r. ⌜ r ≡ cond (distinct entries) (placeOf (keyOf key) (sweep lifetime time entries)) OffLimits ⌝ }
 {
     if block_table::all_distinct(entries) {
         return standing(place_of(entries, lifetime, time, key));
@@ -138,16 +138,6 @@ fn find_tag(row: [u32; 16], own: u32) -> usize
         i += 1;
     }
     16
-}
-
-// The tag of an entry in use for the key; 0 where the key is off its limits.
-fn own_tag(key: &[u8]) -> u32
-    ensures { λ r. ⌜ r ≡ cond (keyOk (now (key .entry))) (folded (digestOf (now (key .entry)))) 0 ⌝ }
-{
-    if keys::key_ok(key) {
-        return keys::key_tag(key);
-    }
-    0
 }
 
 // What is seen once entry i is looked at.
@@ -207,14 +197,14 @@ fn count(entries: [Entry; 16]) -> usize
 }
 
 // What a call needs of the table. Both walks stand here, since a function that walks the row copies it first.
-pub fn look(config: Config, table: Table, time: u64, key: &[u8]) -> Sight
-    ensures { λ r. ⌜ Sees config time (now (key .entry)) table r ⌝ }
+pub fn look(config: Config, table: Table, time: u64, named: NamedKey) -> Sight
+    ensures { λ r. ⌜ ((k : Name) → named ≡ namedOf k → Sees config time k table r) ⌝ }
 {
     let entries = table.entries;
     let n = count(entries);
     let clock = table.clock;
     let mut seen = Seen {
-        ok: keys::key_ok(key),
+        ok: named.ok,
         freed: false,
         free: 16,
     };
@@ -231,7 +221,8 @@ pub fn look(config: Config, table: Table, time: u64, key: &[u8]) -> Sight
         tags[j] = entries::tag(e, narrow(j));
         j += 1;
     }
-    let first = find_tag(tags, own_tag(key));
+    let key = named.key;
+    let first = find_tag(tags, named.tag);
     let own = entries[index(first)];
     let held = holds_live(own, config.lifetime, time, key);
     let place = match quick_place(seen, digest::apart(tags), first, held) {

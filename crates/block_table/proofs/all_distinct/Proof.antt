@@ -19,28 +19,10 @@ abbrev μ-loop : tie.MeasureT-loop
 loop-holds : tie.Need-loop-holds Inv-loop μ-loop
 loop-holds c = (search needs, (search needs, refl))
 
-mul-e : tie.Need-mul-e Inv-loop μ-loop
-mul-e c = search needs
-
-array-copy-out-e : tie.Need-array-copy-out-e Inv-loop μ-loop
-array-copy-out-e c = search needs
-
-add-alone-from : tie.Need-add-alone-from Inv-loop μ-loop
-add-alone-from c = search needs
-
-alone-from-requires : tie.Need-alone-from-requires Inv-loop μ-loop
-alone-from-requires c κs = search needs
-
 returns : tie.Need-returns Inv-loop μ-loop
 returns c =
     let l = c .before .before .before .before in
     sym (row-no (l .before .args .t1) (l .loop .i) nil (search needs) (sym (c .before .alone-from .ensures) ∙ not-true _ (c .if1 .taken))) ∙ l .loop .inv .1 .1
-
-add-i : tie.Need-add-i Inv-loop μ-loop
-add-i c = search needs
-
-loop-less : tie.Need-loop-less Inv-loop μ-loop
-loop-less c = search needs
 
 loop-again : tie.Need-loop-again Inv-loop μ-loop
 loop-again c =
@@ -58,12 +40,12 @@ all-distinct-spec =
     Inv-loop
     μ-loop
     loop-holds
-    mul-e
-    array-copy-out-e
-    add-alone-from
-    alone-from-requires
+    (λ c. search needs)
+    (λ c. search needs)
+    (λ c. search needs)
+    (λ c κs. search needs)
     returns
-    add-i
-    loop-less
+    (λ c. search needs)
+    (λ c. search needs)
     loop-again
     returns-2)

@@ -24,36 +24,6 @@ abbrev μ-loop : tie.MeasureT-loop
 loop-holds : tie.Need-loop-holds Inv-loop μ-loop
 loop-holds c = (search needs, (search needs, refl))
 
-mul-is-live : tie.Need-mul-is-live Inv-loop μ-loop
-mul-is-live c = search needs
-
-element-copy-out-is-live : tie.Need-element-copy-out-is-live Inv-loop μ-loop
-element-copy-out-is-live c = search needs
-
-mul-is-live-2 : tie.Need-mul-is-live-2 Inv-loop μ-loop
-mul-is-live-2 c = search needs
-
-element-copy-out-is-live-2 : tie.Need-element-copy-out-is-live-2 Inv-loop μ-loop
-element-copy-out-is-live-2 c = search needs
-
-is-live-requires : tie.Need-is-live-requires Inv-loop μ-loop
-is-live-requires c κs = search needs
-
-free-entry-requires : tie.Need-free-entry-requires Inv-loop μ-loop
-free-entry-requires c κs = search needs
-
-mul-row : tie.Need-mul-row Inv-loop μ-loop
-mul-row c = search needs
-
-array-set-from-row : tie.Need-array-set-from-row Inv-loop μ-loop
-array-set-from-row c = search needs
-
-add-i : tie.Need-add-i Inv-loop μ-loop
-add-i c = search needs
-
-loop-less : tie.Need-loop-less Inv-loop μ-loop
-loop-less c = search needs
-
 loop-again : tie.Need-loop-again Inv-loop μ-loop
 loop-again c =
     let l = c .before .before .before in
@@ -80,15 +50,15 @@ sweep-row-spec =
     Inv-loop
     μ-loop
     loop-holds
-    mul-is-live
-    element-copy-out-is-live
-    mul-is-live-2
-    element-copy-out-is-live-2
-    is-live-requires
-    free-entry-requires
-    mul-row
-    array-set-from-row
-    add-i
-    loop-less
+    (λ c. search needs)
+    (λ c. search needs)
+    (λ c. search needs)
+    (λ c. search needs)
+    (λ c κs. search needs)
+    (λ c κs. search needs)
+    (λ c. search needs)
+    (λ c. search needs)
+    (λ c. search needs)
+    (λ c. search needs)
     loop-again
     returns)

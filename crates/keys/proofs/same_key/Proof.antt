@@ -1,38 +1,19 @@
-use mathlib.Core.Path.{sym}
-use lib.Seq.{take-all, length-take-le}
+use mathlib.Core.Path.{sym, _∙_, ap}
+use lib.Seq.{length-take-le}
+use Rattle.keys.specs.Keys.{same, keyOf}
 use borrow.Author.Needs.{needs}
 use Rattle.keys.proofs.same_key.Statement.{statement}
 use Rattle.keys.proofs.same_key.Tie as tie
 
-array-share-prefix-bytes : tie.Need-array-share-prefix-bytes
-array-share-prefix-bytes c = search needs
+shared : tie.Need-array-share-prefix-bytes
+shared c = rw (c .cut .ensures .2) (c .cut .ensures .1)
 
-slice-aggregate-same-bytes : tie.Need-slice-aggregate-same-bytes
-slice-aggregate-same-bytes c = let a = c .before .before .before .args in sym (length-take-le (a .len) (a .t2) (search needs))
-
-same-bytes-requires : tie.Need-same-bytes-requires
-same-bytes-requires c κs = search needs
+long : tie.Need-slice-aggregate-same-as
+long c = let cut = c .before .cut in sym (length-take-le (cut .result) _ (rw (cut .ensures .2) (cut .ensures .1)))
 
 returns : tie.Need-returns
-returns c = search needs
-
-slice-aggregate-same-bytes-2 : tie.Need-slice-aggregate-same-bytes-2
-slice-aggregate-same-bytes-2 c = search needs
-
-same-bytes-requires-2 : tie.Need-same-bytes-requires-2
-same-bytes-requires-2 c κs = search needs
-
-returns-2 : tie.Need-returns-2
-returns-2 c = let a = c .before .before .before .before .args in rw (take-all (a .len) (a .t2) (search needs)) (c .same-bytes2 .ensures)
+unfolding keyOf
+returns c = c .same-as .ensures ∙ rw (c .before .before .cut .ensures .0)
 
 pub same-key-spec : {M : Type 1} → statement M
-same-key-spec =
-    tie.close
-    (tie.spec
-    array-share-prefix-bytes
-    slice-aggregate-same-bytes
-    same-bytes-requires
-    returns
-    slice-aggregate-same-bytes-2
-    same-bytes-requires-2
-    returns-2)
+same-key-spec = tie.close (tie.spec (λ c κs. search needs) shared long (λ c κs. search needs) returns)

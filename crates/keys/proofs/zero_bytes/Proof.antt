@@ -13,34 +13,18 @@ Inv-loop bytes sum₀ i₀ sum i = (length bytes ≡ 64) × ((i ≤ 64) × ((sum
 abbrev μ-loop : tie.MeasureT-loop
 μ-loop bytes sum₀ i₀ sum i = 64 - i
 
-loop-holds : tie.Need-loop-holds Inv-loop μ-loop
-loop-holds c = (search needs, (search needs, (search needs, omega arith)))
-
-array-read-word : tie.Need-array-read-word Inv-loop μ-loop
-array-read-word c = search needs
-
-word-requires : tie.Need-word-requires Inv-loop μ-loop
-word-requires c κs = search needs
-
-add-sum : tie.Need-add-sum Inv-loop μ-loop
-add-sum c = search needs
-
-add-i : tie.Need-add-i Inv-loop μ-loop
-add-i c = search needs
-
-loop-less : tie.Need-loop-less Inv-loop μ-loop
-loop-less c = search needs
-
-loop-again : tie.Need-loop-again Inv-loop μ-loop
-loop-again c =
-    let l = c .before .before in
-    let go = total-go (l .before .args .t1) (l .loop .i) (l .loop .sum) _ _ (search needs) (c .word .ensures .0) (l .loop .inv .1 .1 .1) in
+turns : tie.Need-loop-again Inv-loop μ-loop
+turns c =
+    let at-loop = c .before .before in
+    let bytes = at-loop .before .args .t1 in
+    let go = total-go bytes (at-loop .loop .i) (at-loop .loop .sum) _ _ (search needs) (c .u32-of-u8 .ensures .0) (at-loop .loop .inv .1 .1 .1) in
     (search needs, (search needs, (search needs, go)))
 
 returns : tie.Need-returns Inv-loop μ-loop
 returns c =
-    let l = c .before in
-    (rw (total-end (l .before .args .t1) (l .loop .i) (l .loop .sum) _ (omega arith) (l .loop .inv .1 .1 .1)) (total-zeros (l .before .args .t1)), l .loop .inv .0)
+    let at-loop = c .before in
+    let bytes = at-loop .before .args .t1 in
+    (rw (total-end bytes (at-loop .loop .i) (at-loop .loop .sum) _ (omega arith) (at-loop .loop .inv .1 .1 .1)) (total-zeros bytes), at-loop .loop .inv .0)
 
 pub zero-bytes-spec : {M : Type 1} → statement M
 zero-bytes-spec =
@@ -48,11 +32,11 @@ zero-bytes-spec =
     (tie.spec
     Inv-loop
     μ-loop
-    loop-holds
-    array-read-word
-    word-requires
-    add-sum
-    add-i
-    loop-less
-    loop-again
+    (λ c. (search needs, (search needs, (search needs, omega arith))))
+    (λ c. search needs)
+    (λ c κs. search needs)
+    (λ c. search needs)
+    (λ c. search needs)
+    (λ c. search needs)
+    turns
     returns)

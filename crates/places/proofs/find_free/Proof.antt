@@ -22,32 +22,11 @@ abbrev μ-loop : tie.MeasureT-loop
 loop-holds : tie.Need-loop-holds Inv-loop μ-loop
 loop-holds c = (search needs, (search needs, omega arith))
 
-mul-is-live : tie.Need-mul-is-live Inv-loop μ-loop
-mul-is-live c = search needs
-
-element-copy-out-is-live : tie.Need-element-copy-out-is-live Inv-loop μ-loop
-element-copy-out-is-live c = search needs
-
-mul-is-live-2 : tie.Need-mul-is-live-2 Inv-loop μ-loop
-mul-is-live-2 c = search needs
-
-element-copy-out-is-live-2 : tie.Need-element-copy-out-is-live-2 Inv-loop μ-loop
-element-copy-out-is-live-2 c = search needs
-
-is-live-requires : tie.Need-is-live-requires Inv-loop μ-loop
-is-live-requires c κs = search needs
-
 returns : tie.Need-returns Inv-loop μ-loop
 returns c =
     let l = c .before .before .before in
     let gone = live-as _ _ _ _ (sym (not-true _ (c .if1 .taken)) ∙ c .before .is-live .ensures) in
     find-here (notLive (l .before .args .lifetime) (l .before .args .time)) (l .before .args .t1) (l .loop .at) nil _ (search needs) (ap not gone) (l .loop .inv .1 .1)
-
-add-at : tie.Need-add-at Inv-loop μ-loop
-add-at c = search needs
-
-loop-less : tie.Need-loop-less Inv-loop μ-loop
-loop-less c = search needs
 
 loop-again : tie.Need-loop-again Inv-loop μ-loop
 loop-again c =
@@ -69,13 +48,13 @@ find-free-spec =
     Inv-loop
     μ-loop
     loop-holds
-    mul-is-live
-    element-copy-out-is-live
-    mul-is-live-2
-    element-copy-out-is-live-2
-    is-live-requires
+    (λ c. search needs)
+    (λ c. search needs)
+    (λ c. search needs)
+    (λ c. search needs)
+    (λ c κs. search needs)
     returns
-    add-at
-    loop-less
+    (λ c. search needs)
+    (λ c. search needs)
     loop-again
     returns-2)

@@ -5,7 +5,8 @@ use Prim.Native.Nat.{_-_, _≤_}
 use native.Mathlib.Omega.{arith}
 use lib.ListN.{length, take}
 use lib.Seq.{take-all}
-use Rattle.keys.specs.Keys.{keyOk}
+use Rattle.keys.specs.Keys.{keyOf}
+use Rattle.keys.proofs.Keys.{named-ok, named-read, named-tag}
 use Rattle.block_table.specs.Table.{distinct, sweep}
 use Rattle.block_table.specs.Quick.{tagsFrom}
 use Rattle.block_table.proofs.Turns.{nil}
@@ -20,24 +21,24 @@ use Rattle.places.proofs.look.Statement.{statement}
 use Rattle.places.proofs.look.Tie as tie
 
 abbrev Inv-loop : tie.InvT-loop
-Inv-loop config time key entries n clock seen₀ i₀ seen i = (length entries ≡ 16) × ((i ≤ 16) × Walked config clock time entries (keyOk key) seen i)
+Inv-loop config time named entries n clock seen₀ i₀ seen i = (length entries ≡ 16) × ((i ≤ 16) × Walked config clock time entries (named .ok) seen i)
 
 abbrev μ-loop : tie.MeasureT-loop
-μ-loop config time key entries n clock seen₀ i₀ seen i = 16 - i
+μ-loop config time named entries n clock seen₀ i₀ seen i = 16 - i
 
 abbrev Inv-loop2 : tie.InvT-loop2
-Inv-loop2 config time key entries n clock seen i tags₀ j₀ tags j = (length tags ≡ 16) × ((j ≤ 16) × (take j tags ≡ take j (tagsFrom 0 entries)))
+Inv-loop2 config time named entries n clock seen i tags₀ j₀ tags j = (length tags ≡ 16) × ((j ≤ 16) × (take j tags ≡ take j (tagsFrom 0 entries)))
 
 abbrev μ-loop2 : tie.MeasureT-loop2
-μ-loop2 config time key entries n clock seen i tags₀ j₀ tags j = 16 - j
+μ-loop2 config time named entries n clock seen i tags₀ j₀ tags j = 16 - j
 
 walk-begins : tie.Need-loop-holds Inv-loop μ-loop Inv-loop2 μ-loop2
-walk-begins c = (search needs, (search needs, walk-starts _ _ _ _ _ _ (c .key-ok .ensures)))
+walk-begins c = (search needs, (search needs, walk-starts _ _ _ _ _))
 
 walk-turns : tie.Need-loop-again Inv-loop μ-loop Inv-loop2 μ-loop2
 walk-turns c =
     let walk = c .before .before .before in
-    let args = walk .before .before .before .before .before .args in
+    let args = walk .before .before .before .args in
     let walked =
     walk-goes (args .config) (args .table .clock) (args .time) (args .table .entries) _ (walk .loop .seen) (walk .loop .i) (walk .loop .inv .1 .1) (omega arith)
     (walk .loop .inv .0) _ (c .see .ensures .0) (c .see .ensures .1) in
@@ -46,7 +47,7 @@ walk-turns c =
 tags-turn : tie.Need-loop2-again Inv-loop μ-loop Inv-loop2 μ-loop2
 tags-turn c =
     let tagging = c .before .before .before .before in
-    let args = tagging .before .before .before .before .before .before .before .args in
+    let args = tagging .before .before .before .before .before .args in
     let go =
     tags-go (args .table .entries) (tagging .loop2 .tags) (tagging .loop2 .j) _ nil (omega arith) (omega arith) (c .tag .ensures ∙ rw (c .before .narrow .ensures))
     (tagging .loop2 .inv .1 .1) in
@@ -58,7 +59,7 @@ returns c =
     let own = quick .before .before .before .before in
     let tagging = own .before .before .before .before in
     let walk = tagging .before .before in
-    let args = walk .before .before .before .before .before .args in
+    let args = walk .before .before .before .args in
     let entries = args .table .entries in
     let sixteen = walk .loop .inv .0 in
     let ended : length entries ≤ walk .loop .i = omega arith in
@@ -67,11 +68,13 @@ returns c =
     sym (take-all 16 (tagging .loop2 .tags) (omega arith)) ∙ rw full at (tagging .loop2 .inv .1 .1) ∙ take-all 16 (tagsFrom 0 entries) (omega (arith, tags-length 0 entries)) in
     let seen = walk-ends (args .config) (args .table .clock) (args .time) entries _ (walk .loop .seen) (walk .loop .i) (walk .loop .inv .1 .1) ended (walk .loop .inv .1 .0) sixteen in
     let held = rw (own .index .ensures .0) at (quick .before .before .holds-live .ensures) in
-    let tag = own .before .find-tag in
+    let key = keyOf (args .named .key) in
+    let by-bytes = cond (distinct entries) (placeOf key (sweep (args .config .lifetime) (args .time) entries)) OffLimits in
+    λ k is.
+    let ok = rw (named-ok k (args .named) is) at (seen .ok) in
     let there =
-    place-seen (args .config) (args .table) (args .key .now) (args .time) (walk .loop .seen) (tagging .loop2 .tags) (own .before .before .own-tag .result) (tag .result) _
-    sixteen (seen .ok) (seen .free) tags (own .before .before .own-tag .ensures) (tag .ensures) held (quick .before .apart .result) (quick .before .apart .ensures) in
-    let by-bytes = cond (distinct entries) (placeOf (args .key .now) (sweep (args .config .lifetime) (args .time) entries)) OffLimits in
+    place-seen (args .config) (args .table) k (args .time) key (walk .loop .seen) (tagging .loop2 .tags) (args .named .tag) (own .before .find-tag .result) _ sixteen ok (seen .free)
+    (named-read k (args .named) is) (named-tag k (args .named) is) tags (own .before .find-tag .ensures) held (quick .before .apart .result) (quick .before .apart .ensures) in
     let place =
     ⊎-elim
     (λ sure. sure .3 ∙ ap (λ (q : Quick). settled q by-bytes) (sym (sure .1 .given .1) ∙ quick .quick-place .ensures) ∙ there)
@@ -87,7 +90,6 @@ look-spec =
     μ-loop
     Inv-loop2
     μ-loop2
-    (λ c κs. search needs)
     (λ c κs. search needs)
     walk-begins
     (λ c. search needs)
@@ -106,7 +108,6 @@ look-spec =
     (λ c. search needs)
     (λ c. search needs)
     tags-turn
-    (λ c κs. search needs)
     (λ c κs. search needs)
     (λ c κs. search needs)
     (λ c. search needs)

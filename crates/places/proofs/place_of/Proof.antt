@@ -4,20 +4,11 @@ use borrow.Author.Needs.{needs}
 use Rattle.places.proofs.place_of.Statement.{statement}
 use Rattle.places.proofs.place_of.Tie as tie
 
-find-key-requires : tie.Need-find-key-requires
-find-key-requires c κs = search needs
+own : tie.Need-returns
+own c = sym (place-kept _ _ _ _ _ (c .before .find-key .ensures) (c .if1 .taken))
 
-returns : tie.Need-returns
-returns c = let s = c .before .before .before in sym (place-kept (s .args .key .now) (s .args .lifetime) (s .args .time) (s .args .entries) _ (c .before .find-key .ensures) (c .if1 .taken))
-
-find-free-requires : tie.Need-find-free-requires
-find-free-requires c κs = search needs
-
-returns-2 : tie.Need-returns-2
-returns-2 c =
-    let b = c .before in
-    let s = b .before .before .before in
-    c .find-free .ensures ∙ sym (place-new (s .args .key .now) (s .args .lifetime) (s .args .time) (s .args .entries) _ (b .before .find-key .ensures) (b .if1 .left))
+free : tie.Need-returns-2
+free c = let unheld = c .before in c .find-free .ensures ∙ sym (place-new _ _ _ _ _ (unheld .before .find-key .ensures) (unheld .if1 .left))
 
 pub place-of-spec : {M : Type 1} → statement M
-place-of-spec = tie.close (tie.spec find-key-requires returns find-free-requires returns-2)
+place-of-spec = tie.close (tie.spec (λ c κs. search needs) own (λ c κs. search needs) free)

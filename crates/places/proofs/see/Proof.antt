@@ -3,15 +3,6 @@ use borrow.Author.Needs.{needs}
 use Rattle.places.proofs.see.Statement.{statement}
 use Rattle.places.proofs.see.Tie as tie
 
-entry-ok-requires : tie.Need-entry-ok-requires
-entry-ok-requires c κs = search needs
-
-is-expired-requires : tie.Need-is-expired-requires
-is-expired-requires c κs = search needs
-
-is-live-requires : tie.Need-is-live-requires
-is-live-requires c κs = search needs
-
 returns : tie.Need-returns
 returns c =
     let x = c .before .before .before .before in
@@ -26,4 +17,4 @@ returns-2 c =
 
 pub see-spec : {M : Type 1} → statement M
 see-spec =
-    tie.close (tie.spec entry-ok-requires is-expired-requires is-live-requires returns returns-2)
+    tie.close (tie.spec (λ c κs. search needs) (λ c κs. search needs) (λ c κs. search needs) returns returns-2)
