@@ -15,11 +15,4 @@ pub put-maybe-spec : {M : Type 1} → statement M
 put-maybe-spec =
     tie.close
     (tie.spec
-    (λ c. search needs)
-    (λ c κs. search needs)
-    (λ c. search needs)
-    (λ c κs. search needs)
-    (λ c. search needs)
-    given
-    (λ c. search needs)
-    absent)
+    (λ c. search needs) (λ c κs. search needs) (λ c. search needs) (λ c κs. search needs) (λ c. search needs) given (λ c. search needs) absent)

@@ -21,9 +21,4 @@ pub put-shown-spec : {M : Type 1} → statement M
 put-shown-spec =
     tie.close
     (tie.spec
-    (λ c κs. search needs)
-    (λ c. search needs)
-    none
-    (λ c κs. search needs)
-    (λ c. search needs)
-    some)
+    (λ c κs. search needs) (λ c. search needs) none (λ c κs. search needs) (λ c. search needs) some)

@@ -23,11 +23,4 @@ pub put-cached-spec : {M : Type 1} → statement M
 put-cached-spec =
     tie.close
     (tie.spec
-    (λ c κs. search needs)
-    (λ c. search needs)
-    none
-    (λ c. search needs)
-    (λ c. search needs)
-    (λ c κs. search needs)
-    (λ c. search needs)
-    held)
+    (λ c κs. search needs) (λ c. search needs) none (λ c. search needs) (λ c. search needs) (λ c κs. search needs) (λ c. search needs) held)

@@ -25,13 +25,5 @@ pub put-key-spec : {M : Type 1} → statement M
 put-key-spec =
     tie.close
     (tie.spec
-    (λ c. search needs)
-    (λ c. search needs)
-    (λ c. search needs)
-    (λ c κs. search needs)
-    (λ c. search needs)
-    some
-    (λ c. search needs)
-    (λ c κs. search needs)
-    (λ c. search needs)
-    all)
+    (λ c. search needs) (λ c. search needs) (λ c. search needs) (λ c κs. search needs) (λ c. search needs) some (λ c. search needs)
+    (λ c κs. search needs) (λ c. search needs) all)

@@ -36,11 +36,4 @@ pub put-next-spec : {M : Type 1} → statement M
 put-next-spec =
     tie.close
     (tie.spec
-    unused
-    (λ c κs. search needs)
-    (λ c κs. search needs)
-    (λ c. search needs)
-    after-others
-    (λ c κs. search needs)
-    (λ c. search needs)
-    first)
+    unused (λ c κs. search needs) (λ c κs. search needs) (λ c. search needs) after-others (λ c κs. search needs) (λ c. search needs) first)

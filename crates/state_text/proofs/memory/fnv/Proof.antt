@@ -32,13 +32,4 @@ pub fnv-spec : {M : Type 1} → statement M
 fnv-spec =
     tie.close
     (tie.spec
-    Inv-loop
-    μ-loop
-    start
-    (λ c. search needs)
-    (λ c κs. search needs)
-    (λ c κs. search needs)
-    (λ c. search needs)
-    (λ c. search needs)
-    turn
-    end)
+    Inv-loop μ-loop start (λ c. search needs) (λ c κs. search needs) (λ c κs. search needs) (λ c. search needs) (λ c. search needs) turn end)
