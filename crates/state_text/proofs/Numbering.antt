@@ -7,7 +7,7 @@ use native.Mathlib.Omega.{arith}
 use lib.Bits.{bitXor}
 use lib.ListN.{length, getD, drop, drop-of-length-le}
 use Rattle.keys.proofs.Turns.{drop-step}
-use Rattle.memory_text.specs.Memory.{timesPrime, fnvFrom, fnvOf}
+use Rattle.state_text.specs.Memory.{timesPrime, fnvFrom, fnvOf}
 
 pub in-parts : (h : ℕ) → ((h % 2 ^ 24 * 2 ^ 40 + h / 2 ^ 32 * 435 % 2 ^ 32 * 2 ^ 32) % 2 ^ 64 + h % 2 ^ 32 * 435) % 2 ^ 64 ≡ timesPrime h
 in-parts h =

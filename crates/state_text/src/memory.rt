@@ -1,15 +1,9 @@
 // The numbers of both memories, as the line of the state has them.
 ghost use mathlib.Core.Path.{_≡_};
-ghost use Prim.Native.Nat.{_+_, _%_, _≤_};
+ghost use Prim.Native.Nat.{_+_, _≤_};
 ghost use lib.ListN.{length};
 ghost use Rattle.pieces.specs.Memory.{Put};
-ghost use Rattle.memory_text.specs.Memory.{timesPrime, fnvOf, wordText, memoriesText};
-
-fn wide(x: u8) -> u64
-    ensures { λ r. ⌜ r ≡ x ⌝ }
-{
-    x as u64
-}
+ghost use Rattle.state_text.specs.Memory.{timesPrime, fnvOf, wordText, memoriesText};
 
 // Times the prime 2^40 + 435, modulo 2^64, in parts that fit 64 bits.
 fn times_prime(h: u64) -> u64
@@ -28,16 +22,10 @@ fn fnv(bytes: &[u8]) -> u64
     let mut h: u64 = 14695981039346656037;
     let mut i = 0;
     while i < bytes.len() {
-        h = times_prime(h ^ wide(bytes[i]));
+        h = times_prime(h ^ wide::u64_of_u8(bytes[i]));
         i += 1;
     }
     h
-}
-
-fn low_byte(x: u64) -> u8
-    ensures { λ r. ⌜ r ≡ x % 256 ⌝ }
-{
-    (x % 256) as u8
 }
 
 // Sixteen hex digits.
@@ -47,14 +35,14 @@ fn put_word(out: &mut [u8], at: usize, x: u64) -> usize
     ensures { λ r. ⌜ r ≡ at + 16 ⌝ }
 {
     let bytes = [
-        low_byte(x / 72057594037927936),
-        low_byte(x / 281474976710656),
-        low_byte(x / 1099511627776),
-        low_byte(x / 4294967296),
-        low_byte(x / 16777216),
-        low_byte(x / 65536),
-        low_byte(x / 256),
-        low_byte(x),
+        (x / 72057594037927936 % 256) as u8,
+        (x / 281474976710656 % 256) as u8,
+        (x / 1099511627776 % 256) as u8,
+        (x / 4294967296 % 256) as u8,
+        (x / 16777216 % 256) as u8,
+        (x / 65536 % 256) as u8,
+        (x / 256 % 256) as u8,
+        (x % 256) as u8,
     ];
     script_text::put_hex(out, at, &bytes)
 }
