@@ -43,9 +43,21 @@ no false h = refl
 nothing-is : (s : BlockState) → isNothing s ≡ true → s ≡ nothing
 unfolding isNothing
 nothing-is s h = λ k. record {
-  assembled = record { len = eqb-true (s .assembled .len) 0 (search ands depth 12) k; exponent = eqb-true (s .assembled .exponent) 0 (search ands depth 12) k };
-  cached = record { held = no (s .cached .held) (search ands depth 12) k; head = eqb-true (s .cached .head) 0 (search ands depth 12) k; payload = eqb-true (s .cached .payload) 0 (search ands depth 12) k };
-  recorded = record { given = no (s .recorded .given) (search ands depth 12) k; more = no (s .recorded .more) (search ands depth 12) k; exponent = eqb-true (s .recorded .exponent) 0 (search ands depth 12) k; num = eqb-true (s .recorded .num) 0 (search ands depth 12) k };
+  assembled = record {
+    len = eqb-true (s .assembled .len) 0 (search ands depth 12) k;
+    exponent = eqb-true (s .assembled .exponent) 0 (search ands depth 12) k;
+  };
+  cached = record {
+    held = no (s .cached .held) (search ands depth 12) k;
+    head = eqb-true (s .cached .head) 0 (search ands depth 12) k;
+    payload = eqb-true (s .cached .payload) 0 (search ands depth 12) k;
+  };
+  recorded = record {
+    given = no (s .recorded .given) (search ands depth 12) k;
+    more = no (s .recorded .more) (search ands depth 12) k;
+    exponent = eqb-true (s .recorded .exponent) 0 (search ands depth 12) k;
+    num = eqb-true (s .recorded .num) 0 (search ands depth 12) k;
+  };
 }
 
 pub sized-used : (e : Entry) → e .used ≡ true → sized e ≡ true

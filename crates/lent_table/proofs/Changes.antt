@@ -81,7 +81,8 @@ module _ {M : Type 1} (𝓤 : URA M) (H : Heap 𝓤) (A : Atoms 𝓤) (W : Given
   goes-one g is =
       qed W [] ∵ nothing ! $ owned ! G.the-row (Is G.the-row) (LL.makes G.the-type G′.the-plain 𝓤 H A) g _ is $ fjoin ! $ nothing ! $ join ! $ nothing ! $ move ! (1 ∷ 0 ∷ []) $ done !
 
-module _ {M : Type 1} {𝓤 : URA M} {H : Heap 𝓤} {A : Atoms 𝓤} {W : Given 𝓤 H A} {K : Type 0} {Γ : List (Item 𝓤)} {E : Env 𝓤 H} {C : Calls 𝓤 H} {Λ : Loops 𝓤 H} {q : Post 𝓤 H} {xs : List Operand} {p : Place} {more : Body} where
+module _ {M : Type 1} {𝓤 : URA M} {H : Heap 𝓤} {A : Atoms 𝓤} {W : Given 𝓤 H A} {K : Type 0} {Γ : List (Item 𝓤)} {E : Env 𝓤 H} {C : Calls 𝓤 H} {Λ : Loops 𝓤 H}
+    {q : Post 𝓤 H} {xs : List Operand} {p : Place} {more : Body} where
   pub changes : K → (mem : Memory → SProp 𝓤) (run : Routine → Fun 𝓤) → FmC 𝓤 H (W .laws) C → Triple 𝓤 (C #changed) (Changed 𝓤 H A mem run)
       → (h : Table) (u t : ℕ) (g : Change) → u < 2 ^ 64 → t < 2 ^ 64 → Is G.the-row g (news g ∷ [])
       → Opds K W (raw (Changed 𝓤 H A mem run .pre (to-changed 𝓤 H A mem run h u t g)) ∷ Γ) E xs (mach h ∷ vint w64 u ∷ vint w64 t ∷ news g ∷ [])
@@ -90,7 +91,8 @@ module _ {M : Type 1} {𝓤 : URA M} {H : Heap 𝓤} {A : Atoms 𝓤} {W : Given
   changes z mem run fm known h u t g u-fits t-fits is-g os k =
       use1 W (raw (Changed 𝓤 H A mem run .pre (to-changed 𝓤 H A mem run h u t g))) (goes-changed 𝓤 H A W mem run h u t g u-fits t-fits is-g) $
       calls-at z fm (Changed 𝓤 H A mem run) known (to-changed 𝓤 H A mem run h u t g) os (λ v.
-      use1 W (later (some (λ (r : Table). (‵ ftrue ⊛ ‵ (T.the-row .own r (v ∷ []))) ⊛ raw (ensured 𝓤 H A c.ended (c.clauses 𝓤 H A mem run) tt (h, (u, (t, (g, tt)))) tt r)))) (id⊢ 𝓤 _) $ await z tt $ pick z (λ r.
+      use1 W (later (some (λ (r : Table). (‵ ftrue ⊛ ‵ (T.the-row .own r (v ∷ [])))
+      ⊛ raw (ensured 𝓤 H A c.ended (c.clauses 𝓤 H A mem run) tt (h, (u, (t, (g, tt)))) tt r)))) (id⊢ 𝓤 _) $ await z tt $ pick z (λ r.
       split z $ move z (1 ∷ []) $ use1 W (raw (fact 𝓤 (r ≡ changed u t h g))) (changed-of 𝓤 H A mem run h u t g r) $ heard z (r ≡ changed u t h g) (λ e. split z $ drop z $
       peeks z T.the-row (Is T.the-row) (shows 𝓤 H A T.the-row) r (v ∷ []) (λ is. k v r e is))))
 

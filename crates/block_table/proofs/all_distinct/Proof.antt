@@ -16,22 +16,21 @@ Inv-loop entries i₀ i = (length entries ≡ 16) × ((i ≤ 16) × (distinct (d
 abbrev μ-loop : tie.MeasureT-loop
 μ-loop entries i₀ i = 16 - i
 
-loop-holds : tie.Need-loop-holds Inv-loop μ-loop
-loop-holds c = (search needs, (search needs, refl))
+two-alike : tie.Need-returns Inv-loop μ-loop
+two-alike c =
+    let asked = c .before in
+    let at-loop = asked .before .before .before in
+    sym (row-no _ (at-loop .loop .i) nil (search needs) (sym (asked .alone-from .ensures) ∙ not-true _ (c .if1 .taken))) ∙ at-loop .loop .inv .1 .1
 
-returns : tie.Need-returns Inv-loop μ-loop
-returns c =
-    let l = c .before .before .before .before in
-    sym (row-no (l .before .args .t1) (l .loop .i) nil (search needs) (sym (c .before .alone-from .ensures) ∙ not-true _ (c .if1 .taken))) ∙ l .loop .inv .1 .1
+turns : tie.Need-loop-again Inv-loop μ-loop
+turns c =
+    let asked = c .before in
+    let at-loop = asked .before .before .before in
+    let go = row-go _ (at-loop .loop .i) nil (search needs) (sym (asked .alone-from .ensures) ∙ not-false _ (c .if1 .left)) in
+    (search needs, (search needs, go ∙ at-loop .loop .inv .1 .1))
 
-loop-again : tie.Need-loop-again Inv-loop μ-loop
-loop-again c =
-    let l = c .before .before .before .before in
-    let go = row-go (l .before .args .t1) (l .loop .i) nil (search needs) (sym (c .before .alone-from .ensures) ∙ not-false _ (c .if1 .left)) in
-    (search needs, (search needs, go ∙ l .loop .inv .1 .1))
-
-returns-2 : tie.Need-returns-2 Inv-loop μ-loop
-returns-2 c = sym (row-end (c .before .before .args .t1) (c .before .loop .i) (omega arith)) ∙ c .before .loop .inv .1 .1
+all-apart : tie.Need-returns-2 Inv-loop μ-loop
+all-apart c = let at-loop = c .before in sym (row-end _ (at-loop .loop .i) (omega arith)) ∙ at-loop .loop .inv .1 .1
 
 pub all-distinct-spec : {M : Type 1} → statement M
 all-distinct-spec =
@@ -39,13 +38,13 @@ all-distinct-spec =
     (tie.spec
     Inv-loop
     μ-loop
-    loop-holds
+    (λ c. (search needs, (search needs, refl)))
     (λ c. search needs)
     (λ c. search needs)
     (λ c. search needs)
     (λ c κs. search needs)
-    returns
+    two-alike
     (λ c. search needs)
     (λ c. search needs)
-    loop-again
-    returns-2)
+    turns
+    all-apart)

@@ -17,24 +17,27 @@ Inv-loop e from entries i₀ i = (length entries ≡ 16) × (alone e (drop i ent
 abbrev μ-loop : tie.MeasureT-loop
 μ-loop e from entries i₀ i = 16 - i
 
-loop-holds : tie.Need-loop-holds Inv-loop μ-loop
-loop-holds c = (search needs, refl)
+clash-found : tie.Need-returns Inv-loop μ-loop
+clash-found c =
+    let asked = c .before in
+    let at-loop = asked .before .before .before in
+    let args = at-loop .before .args in
+    sym (all-no (λ f. not (clash (args .e) f)) (args .t2) (at-loop .loop .i) nil (search needs) (ap not (sym (asked .clashes .ensures) ∙ c .if1 .taken)))
+    ∙ at-loop .loop .inv .1
 
-returns : tie.Need-returns Inv-loop μ-loop
-returns c =
-    let l = c .before .before .before .before in
-    sym (all-no (λ f. not (clash (l .before .args .e) f)) (l .before .args .t2) (l .loop .i) nil (search needs) (ap not (sym (c .before .clashes .ensures) ∙ c .if1 .taken))) ∙ l .loop .inv .1
+turns : tie.Need-loop-again Inv-loop μ-loop
+turns c =
+    let asked = c .before in
+    let at-loop = asked .before .before .before in
+    let args = at-loop .before .args in
+    let go = all-go (λ f. not (clash (args .e) f)) (args .t2) (at-loop .loop .i) nil (search needs) (ap not (sym (asked .clashes .ensures) ∙ c .if1 .left)) in
+    (search needs, go ∙ at-loop .loop .inv .1)
 
-loop-again : tie.Need-loop-again Inv-loop μ-loop
-loop-again c =
-    let l = c .before .before .before .before in
-    let go = all-go (λ f. not (clash (l .before .args .e) f)) (l .before .args .t2) (l .loop .i) nil (search needs) (ap not (sym (c .before .clashes .ensures) ∙ c .if1 .left)) in
-    (search needs, go ∙ l .loop .inv .1)
-
-returns-2 : tie.Need-returns-2 Inv-loop μ-loop
-returns-2 c =
-    let l = c .before in
-    sym (all-end (λ f. not (clash (l .before .args .e) f)) (l .before .args .t2) (l .loop .i) (omega arith)) ∙ l .loop .inv .1
+no-clash : tie.Need-returns-2 Inv-loop μ-loop
+no-clash c =
+    let at-loop = c .before in
+    let args = at-loop .before .args in
+    sym (all-end (λ f. not (clash (args .e) f)) (args .t2) (at-loop .loop .i) (omega arith)) ∙ at-loop .loop .inv .1
 
 pub alone-from-spec : {M : Type 1} → statement M
 alone-from-spec =
@@ -42,12 +45,12 @@ alone-from-spec =
     (tie.spec
     Inv-loop
     μ-loop
-    loop-holds
+    (λ c. (search needs, refl))
     (λ c. search needs)
     (λ c. search needs)
     (λ c κs. search needs)
-    returns
+    clash-found
     (λ c. search needs)
     (λ c. search needs)
-    loop-again
-    returns-2)
+    turns
+    no-clash)

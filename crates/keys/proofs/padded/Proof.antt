@@ -16,33 +16,19 @@ Inv-loop key bytes₀ i₀ bytes i = (length key ≤ 64) × ((i ≤ length key) 
 abbrev μ-loop : tie.MeasureT-loop
 μ-loop key bytes₀ i₀ bytes i = length key - i
 
-loop-holds : tie.Need-loop-holds Inv-loop μ-loop
-loop-holds c = (search needs, (search needs, refl))
-
-shared-slice-read-bytes : tie.Need-shared-slice-read-bytes Inv-loop μ-loop
-shared-slice-read-bytes c = search needs
-
-array-write-bytes : tie.Need-array-write-bytes Inv-loop μ-loop
-array-write-bytes c = search needs
-
-add-i : tie.Need-add-i Inv-loop μ-loop
-add-i c = search needs
-
-loop-less : tie.Need-loop-less Inv-loop μ-loop
-loop-less c = search needs
-
-loop-again : tie.Need-loop-again Inv-loop μ-loop
-loop-again c =
-    let l = c .before .before in
-    (search needs, (search needs, rw (l .loop .inv .1 .1) (pad-go (l .before .args .key .now) (replicate 64 0) (l .loop .i) (search needs) (omega arith))))
+turns : tie.Need-loop-again Inv-loop μ-loop
+turns c =
+    let at-loop = c .before .before in
+    let go = pad-go (at-loop .before .args .key .now) (replicate 64 0) (at-loop .loop .i) (search needs) (omega arith) in
+    (search needs, (search needs, rw (at-loop .loop .inv .1 .1) go))
 
 returns : tie.Need-returns Inv-loop μ-loop
 unfolding stored
 returns c =
-    let l = c .before in
-    let k = l .before .args .key .now in
-    let e : l .loop .i ≡ length k = omega arith in
-    l .loop .inv .1 .1 ∙ rw (e, take-length k, drop-zeros 64 (length k) (omega arith))
+    let at-loop = c .before in
+    let key = at-loop .before .args .key .now in
+    let end : at-loop .loop .i ≡ length key = omega arith in
+    at-loop .loop .inv .1 .1 ∙ rw (end, take-length key, drop-zeros 64 (length key) (omega arith))
 
 pub padded-spec : {M : Type 1} → statement M
 padded-spec =
@@ -50,10 +36,10 @@ padded-spec =
     (tie.spec
     Inv-loop
     μ-loop
-    loop-holds
-    shared-slice-read-bytes
-    array-write-bytes
-    add-i
-    loop-less
-    loop-again
+    (λ c. (search needs, (search needs, refl)))
+    (λ c. search needs)
+    (λ c. search needs)
+    (λ c. search needs)
+    (λ c. search needs)
+    turns
     returns)

@@ -15,35 +15,21 @@ Inv-loop a b equal₀ i₀ equal i = (length a ≡ length b) × ((i ≤ length a
 abbrev μ-loop : tie.MeasureT-loop
 μ-loop a b equal₀ i₀ equal i = length a - i
 
-returns : tie.Need-returns Inv-loop μ-loop
-returns c = sym (same-length (c .before .args .a .now) (c .before .args .b .now) (c .if1 .taken))
+lengths-differ : tie.Need-returns Inv-loop μ-loop
+lengths-differ c = sym (same-length (c .before .args .a .now) (c .before .args .b .now) (c .if1 .taken))
 
-loop-holds : tie.Need-loop-holds Inv-loop μ-loop
-loop-holds c = (search needs, (search needs, refl))
+turns : tie.Need-loop-again Inv-loop μ-loop
+turns c =
+    let at-loop = c .before .before .before in
+    let args = at-loop .before .before .args in
+    let go = same-go (args .a .now) (args .b .now) (at-loop .loop .i) (at-loop .loop .equal) _ (omega arith) (omega arith) (at-loop .loop .inv .1 .1) in
+    (search needs, (search needs, go))
 
-shared-slice-read-equal : tie.Need-shared-slice-read-equal Inv-loop μ-loop
-shared-slice-read-equal c = search needs
-
-shared-slice-read-equal-2 : tie.Need-shared-slice-read-equal-2 Inv-loop μ-loop
-shared-slice-read-equal-2 c = search needs
-
-add-i : tie.Need-add-i Inv-loop μ-loop
-add-i c = search needs
-
-loop-less : tie.Need-loop-less Inv-loop μ-loop
-loop-less c = search needs
-
-loop-again : tie.Need-loop-again Inv-loop μ-loop
-loop-again c =
-    let l = c .before .before .before in
-    let a = l .before .before .args in
-    (search needs, (search needs, same-go (a .a .now) (a .b .now) (l .loop .i) (l .loop .equal) _ (omega arith) (omega arith) (l .loop .inv .1 .1)))
-
-returns-2 : tie.Need-returns-2 Inv-loop μ-loop
-returns-2 c =
-    let l = c .before in
-    let a = l .before .before .args in
-    same-end (a .a .now) (a .b .now) (l .loop .i) (l .loop .equal) _ (omega arith) (omega arith) (l .loop .inv .1 .1)
+compared : tie.Need-returns-2 Inv-loop μ-loop
+compared c =
+    let at-loop = c .before in
+    let args = at-loop .before .before .args in
+    same-end (args .a .now) (args .b .now) (at-loop .loop .i) (at-loop .loop .equal) _ (omega arith) (omega arith) (at-loop .loop .inv .1 .1)
 
 pub same-bytes-spec : {M : Type 1} → statement M
 same-bytes-spec =
@@ -51,11 +37,11 @@ same-bytes-spec =
     (tie.spec
     Inv-loop
     μ-loop
-    returns
-    loop-holds
-    shared-slice-read-equal
-    shared-slice-read-equal-2
-    add-i
-    loop-less
-    loop-again
-    returns-2)
+    lengths-differ
+    (λ c. (search needs, (search needs, refl)))
+    (λ c. search needs)
+    (λ c. search needs)
+    (λ c. search needs)
+    (λ c. search needs)
+    turns
+    compared)

@@ -14,32 +14,33 @@ use Rattle.places.proofs.find_free.Statement.{statement}
 use Rattle.places.proofs.find_free.Tie as tie
 
 abbrev Inv-loop : tie.InvT-loop
-Inv-loop lifetime time entries at₀ at = (length entries ≡ 16) × ((at ≤ 16) × (at + find (notLive lifetime time) (drop at entries) ≡ find (notLive lifetime time) entries))
+Inv-loop lifetime time entries at₀ at =
+    let gone = notLive lifetime time in
+    (length entries ≡ 16) × ((at ≤ 16) × (at + find gone (drop at entries) ≡ find gone entries))
 
 abbrev μ-loop : tie.MeasureT-loop
 μ-loop lifetime time entries at₀ at = 16 - at
 
-loop-holds : tie.Need-loop-holds Inv-loop μ-loop
-loop-holds c = (search needs, (search needs, omega arith))
-
-returns : tie.Need-returns Inv-loop μ-loop
-returns c =
-    let l = c .before .before .before in
+found : tie.Need-returns Inv-loop μ-loop
+found c =
+    let at-loop = c .before .before .before in
+    let args = at-loop .before .args in
     let gone = live-as _ _ _ _ (sym (not-true _ (c .if1 .taken)) ∙ c .before .is-live .ensures) in
-    find-here (notLive (l .before .args .lifetime) (l .before .args .time)) (l .before .args .t1) (l .loop .at) nil _ (search needs) (ap not gone) (l .loop .inv .1 .1)
+    find-here (notLive (args .lifetime) (args .time)) (args .t1) (at-loop .loop .at) nil _ (search needs) (ap not gone) (at-loop .loop .inv .1 .1)
 
-loop-again : tie.Need-loop-again Inv-loop μ-loop
-loop-again c =
-    let l = c .before .before .before in
+turns : tie.Need-loop-again Inv-loop μ-loop
+turns c =
+    let at-loop = c .before .before .before in
+    let args = at-loop .before .args in
     let kept = live-as _ _ _ _ (sym (not-false _ (c .if1 .left)) ∙ c .before .is-live .ensures) in
-    let go = find-go (notLive (l .before .args .lifetime) (l .before .args .time)) (l .before .args .t1) (l .loop .at) nil _ (search needs) (ap not kept) (l .loop .inv .1 .1) in
+    let go = find-go (notLive (args .lifetime) (args .time)) (args .t1) (at-loop .loop .at) nil _ (search needs) (ap not kept) (at-loop .loop .inv .1 .1) in
     (search needs, (search needs, go))
 
-returns-2 : tie.Need-returns-2 Inv-loop μ-loop
-returns-2 c =
-    let l = c .before in
-    let e : l .loop .at ≡ 16 = omega arith in
-    sym e ∙ find-end (notLive (l .before .args .lifetime) (l .before .args .time)) (l .before .args .t1) (l .loop .at) _ (omega arith) (l .loop .inv .1 .1)
+none : tie.Need-returns-2 Inv-loop μ-loop
+none c =
+    let at-loop = c .before in
+    let end : at-loop .loop .at ≡ 16 = omega arith in
+    sym end ∙ find-end _ _ (at-loop .loop .at) _ (omega arith) (at-loop .loop .inv .1 .1)
 
 pub find-free-spec : {M : Type 1} → statement M
 find-free-spec =
@@ -47,14 +48,14 @@ find-free-spec =
     (tie.spec
     Inv-loop
     μ-loop
-    loop-holds
+    (λ c. (search needs, (search needs, omega arith)))
     (λ c. search needs)
     (λ c. search needs)
     (λ c. search needs)
     (λ c. search needs)
     (λ c κs. search needs)
-    returns
+    found
     (λ c. search needs)
     (λ c. search needs)
-    loop-again
-    returns-2)
+    turns
+    none)

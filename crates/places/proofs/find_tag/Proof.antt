@@ -16,25 +16,24 @@ Inv-loop own row i₀ i = (length row ≡ 16) × ((i ≤ 16) × (i + find (λ x.
 abbrev μ-loop : tie.MeasureT-loop
 μ-loop own row i₀ i = 16 - i
 
-loop-holds : tie.Need-loop-holds Inv-loop μ-loop
-loop-holds c = (search needs, (search needs, omega arith))
+found : tie.Need-returns Inv-loop μ-loop
+found c =
+    let at-loop = c .before .before in
+    let args = at-loop .before .args in
+    find-here (λ x. eqb x (args .own)) (args .t1) (at-loop .loop .i) 0 _ (search needs) (eq-eqb _ _ (c .if1 .taken)) (at-loop .loop .inv .1 .1)
 
-returns : tie.Need-returns Inv-loop μ-loop
-returns c =
-    let l = c .before .before in
-    find-here (λ x. eqb x (l .before .args .own)) (l .before .args .t1) (l .loop .i) 0 _ (search needs) (eq-eqb _ _ (c .if1 .taken)) (l .loop .inv .1 .1)
-
-loop-again : tie.Need-loop-again Inv-loop μ-loop
-loop-again c =
-    let l = c .before .before in
-    let go = find-go (λ x. eqb x (l .before .args .own)) (l .before .args .t1) (l .loop .i) 0 _ (search needs) (ne-eqb _ _ (c .if1 .left)) (l .loop .inv .1 .1) in
+turns : tie.Need-loop-again Inv-loop μ-loop
+turns c =
+    let at-loop = c .before .before in
+    let args = at-loop .before .args in
+    let go = find-go (λ x. eqb x (args .own)) (args .t1) (at-loop .loop .i) 0 _ (search needs) (ne-eqb _ _ (c .if1 .left)) (at-loop .loop .inv .1 .1) in
     (search needs, (search needs, go))
 
-returns-2 : tie.Need-returns-2 Inv-loop μ-loop
-returns-2 c =
-    let l = c .before in
-    let e : l .loop .i ≡ 16 = omega arith in
-    sym e ∙ find-end (λ x. eqb x (l .before .args .own)) (l .before .args .t1) (l .loop .i) _ (omega arith) (l .loop .inv .1 .1)
+none : tie.Need-returns-2 Inv-loop μ-loop
+none c =
+    let at-loop = c .before in
+    let end : at-loop .loop .i ≡ 16 = omega arith in
+    sym end ∙ find-end (λ x. eqb x (at-loop .before .args .own)) _ (at-loop .loop .i) _ (omega arith) (at-loop .loop .inv .1 .1)
 
 pub find-tag-spec : {M : Type 1} → statement M
 find-tag-spec =
@@ -42,11 +41,11 @@ find-tag-spec =
     (tie.spec
     Inv-loop
     μ-loop
-    loop-holds
+    (λ c. (search needs, (search needs, omega arith)))
     (λ c. search needs)
     (λ c. search needs)
-    returns
+    found
     (λ c. search needs)
     (λ c. search needs)
-    loop-again
-    returns-2)
+    turns
+    none)
