@@ -166,4 +166,6 @@ pub asked-is : (c : Config) (w : World) (row : List Entry) (i : ℕ) (e : Entry)
     → a ≡ askedBy c q block1 block2 → askedAt c w row i e a payload ≡ callAt c w (q .time) row i e (request (asking q block1 block2 payload))
 unfolding callAt
 asked-is c w row i e q block1 block2 payload a h =
-    rw h (ap (requestLeft c w (q .time) row i (e .key)) (step-read c (i * c .upload) (i * c .response) (e .state) (pieceOf (c .upload) i (w .upload)) q block1 block2 payload (askedBy c q block1 block2) refl))
+    let piece = pieceOf (c .upload) i (w .upload) in
+    let read = step-read c (i * c .upload) (i * c .response) (e .state) piece q block1 block2 payload (askedBy c q block1 block2) refl in
+    rw h (ap (requestLeft c w (q .time) row i (e .key)) read)

@@ -82,7 +82,11 @@ fn request_at(
     payload: &[u8],
 ) -> Change
     requires { ⌜ ((k : Name) × (v : ℕ) × (t : Table) × Placed config sight key (asked .time) (lengths (length (now upload)) v (asked .bare) (length (now payload)) 0) i k t) ⌝ }
-    ensures { λ r. ⌜ ((k : Name) (v : ℕ) (t : Table) → Placed config sight key (asked .time) (lengths (length (now (upload .entry))) v (asked .bare) (length (now (payload .entry))) 0) i k t → (d : List ℕ) → done (world (changed (config .lifetime) (asked .time) t r) (now (upload .exit)) d) (r .answer) ≡ askedAt config (world t (now (upload .entry)) d) (sweep (config .lifetime) (asked .time) (t .entries)) i (opened k (sweep (config .lifetime) (asked .time) (t .entries))) asked (now (payload .entry))) × (r .at ≡ i) ⌝ }
+    ensures { λ r. ⌜ ((k : Name) (v : ℕ) (t : Table)
+        → Placed config sight key (asked .time) (lengths (length (now (upload .entry))) v (asked .bare) (length (now (payload .entry))) 0) i k t → (d : List ℕ)
+        → done (world (changed (config .lifetime) (asked .time) t r) (now (upload .exit)) d) (r .answer)
+        ≡ askedAt config (world t (now (upload .entry)) d) (sweep (config .lifetime) (asked .time) (t .entries)) i
+        (opened k (sweep (config .lifetime) (asked .time) (t .entries))) asked (now (payload .entry))) × (r .at ≡ i) ⌝ }
 {
     let e = opened_entry(config, sight, asked.time, key);
     let state = e.state;
@@ -114,7 +118,13 @@ fn response_at<'a>(
     payload: &'a [u8],
 ) -> Change
     requires { ⌜ ((k : Name) × (u : ℕ) × (t : Table) × Placed config sight key (numbers .time) (lengths u (length (now response)) (numbers .bare) (length (now payload)) (length (now head))) i k t) ⌝ }
-    ensures { λ r. ⌜ ((k : Name) (u : ℕ) (t : Table) → Placed config sight key (numbers .time) (lengths u (length (now (response .entry))) (numbers .bare) (length (now (payload .entry))) (length (now (head .entry)))) i k t → (m : List ℕ) → done (world (changed (config .lifetime) (numbers .time) t r) m (now (response .exit))) (r .answer) ≡ callAt config (world t m (now (response .entry))) (numbers .time) (sweep (config .lifetime) (numbers .time) (t .entries)) i (opened k (sweep (config .lifetime) (numbers .time) (t .entries))) (Rattle.block_state.specs.Message.response (replying numbers (now (head .entry)) (now (payload .entry))))) × (r .at ≡ i) ⌝ }
+    ensures { λ r. ⌜ ((k : Name) (u : ℕ) (t : Table)
+        → Placed config sight key (numbers .time)
+        (lengths u (length (now (response .entry))) (numbers .bare) (length (now (payload .entry))) (length (now (head .entry)))) i k t → (m : List ℕ)
+        → done (world (changed (config .lifetime) (numbers .time) t r) m (now (response .exit))) (r .answer)
+        ≡ callAt config (world t m (now (response .entry))) (numbers .time) (sweep (config .lifetime) (numbers .time) (t .entries)) i
+        (opened k (sweep (config .lifetime) (numbers .time) (t .entries)))
+        (Rattle.block_state.specs.Message.response (replying numbers (now (head .entry)) (now (payload .entry))))) × (r .at ≡ i) ⌝ }
 {
     let e = opened_entry(config, sight, numbers.time, key);
     let state = e.state;
@@ -157,7 +167,9 @@ pub fn request_change<'a>(
     block2: &'a [u8],
     payload: &'a [u8],
 ) -> Change
-    ensures { λ r. ⌜ (Meant config (world table (now (upload .entry)) (now (response .entry))) (requestCall numbers (now (key .entry)) (now (block1 .entry)) (now (block2 .entry)) (now (payload .entry))) (world (changed (config .lifetime) (numbers .time) table r) (now (upload .exit)) (now (response .entry))) (r .answer)) × (r .at < 16) ⌝ }
+    ensures { λ r. ⌜ (Meant config (world table (now (upload .entry)) (now (response .entry)))
+        (requestCall numbers (now (key .entry)) (now (block1 .entry)) (now (block2 .entry)) (now (payload .entry)))
+        (world (changed (config .lifetime) (numbers .time) table r) (now (upload .exit)) (now (response .entry))) (r .answer)) × (r .at < 16) ⌝ }
 {
     let lengths = Lengths {
         upload: upload.len(),
@@ -190,7 +202,9 @@ pub fn intercept_request<'a>(
     block2: &'a [u8],
     payload: &'a [u8],
 ) -> Outcome
-    ensures { λ r. ⌜ Meant config (world table (now (upload .entry)) (now (response .entry))) (requestCall numbers (now (key .entry)) (now (block1 .entry)) (now (block2 .entry)) (now (payload .entry))) (world (r .table) (now (upload .exit)) (now (response .entry))) (r .answer) ⌝ }
+    ensures { λ r. ⌜ Meant config (world table (now (upload .entry)) (now (response .entry)))
+        (requestCall numbers (now (key .entry)) (now (block1 .entry)) (now (block2 .entry)) (now (payload .entry)))
+        (world (r .table) (now (upload .exit)) (now (response .entry))) (r .answer) ⌝ }
 {
     let change = request_change(
         config,
@@ -222,7 +236,9 @@ pub fn response_change<'a>(
     head: &'a [u8],
     payload: &'a [u8],
 ) -> Change
-    ensures { λ r. ⌜ (Meant config (world table (now (upload .entry)) (now (response .entry))) (responseCall numbers (now (key .entry)) (now (head .entry)) (now (payload .entry))) (world (changed (config .lifetime) (numbers .time) table r) (now (upload .entry)) (now (response .exit))) (r .answer)) × (r .at < 16) ⌝ }
+    ensures { λ r. ⌜ (Meant config (world table (now (upload .entry)) (now (response .entry)))
+        (responseCall numbers (now (key .entry)) (now (head .entry)) (now (payload .entry)))
+        (world (changed (config .lifetime) (numbers .time) table r) (now (upload .entry)) (now (response .exit))) (r .answer)) × (r .at < 16) ⌝ }
 {
     let lengths = Lengths {
         upload: upload.len(),
@@ -251,7 +267,8 @@ pub fn intercept_response<'a>(
     head: &'a [u8],
     payload: &'a [u8],
 ) -> Outcome
-    ensures { λ r. ⌜ Meant config (world table (now (upload .entry)) (now (response .entry))) (responseCall numbers (now (key .entry)) (now (head .entry)) (now (payload .entry))) (world (r .table) (now (upload .entry)) (now (response .exit))) (r .answer) ⌝ }
+    ensures { λ r. ⌜ Meant config (world table (now (upload .entry)) (now (response .entry)))
+        (responseCall numbers (now (key .entry)) (now (head .entry)) (now (payload .entry))) (world (r .table) (now (upload .entry)) (now (response .exit))) (r .answer) ⌝ }
 {
     let change = response_change(config, table, upload, response, numbers, key, head, payload);
     let answer = change.answer;

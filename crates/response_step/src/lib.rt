@@ -54,7 +54,8 @@ fn cache_response<'a>(
     part: Part,
 ) -> Stepped
     requires { ⌜ (length (now piece) ≡ config .response) × (length (now piece) < 2 ^ 32) × (length (now head) ≤ 128) × (block .more ≡ true) ⌝ }
-    ensures { λ r. ⌜ left (r .state) (now (piece .exit)) (r .answer) ≡ chunked config state (now (piece .entry)) (now (head .entry)) (now (payload .entry)) (Chunk.Bytes block (part .from) (part .to)) ⌝ }
+    ensures { λ r. ⌜ left (r .state) (now (piece .exit)) (r .answer)
+        ≡ chunked config state (now (piece .entry)) (now (head .entry)) (now (payload .entry)) (Chunk.Bytes block (part .from) (part .to)) ⌝ }
 {
     let h = head.len();
     let p = payload.len();
@@ -77,7 +78,8 @@ fn serve_response<'a>(
     block: BlockValue,
 ) -> Stepped
     requires { ⌜ (length (now piece) ≡ config .response) × (length (now piece) < 2 ^ 32) × (length (now head) ≤ 128) ⌝ }
-    ensures { λ r. ⌜ left (r .state) (now (piece .exit)) (r .answer) ≡ chunked config state (now (piece .entry)) (now (head .entry)) (now (payload .entry)) (chunkOf block (length (now (payload .entry)))) ⌝ }
+    ensures { λ r. ⌜ left (r .state) (now (piece .exit)) (r .answer)
+        ≡ chunked config state (now (piece .entry)) (now (head .entry)) (now (payload .entry)) (chunkOf block (length (now (payload .entry)))) ⌝ }
 {
     match negotiation::chunk_of(block, payload.len()) {
         Chunk::Refused(n) => state::refused(state, n),

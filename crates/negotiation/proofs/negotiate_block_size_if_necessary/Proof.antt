@@ -16,7 +16,12 @@ returns-3 : tie.Need-returns-3
 returns-3 c = sym (with-room _ _ _ _ _ (omega arith) (omega arith) ∙ absent-fits _ _ _ _ (c .before .enum-told .given .1) (c .if3 .taken))
 
 returns-4 : tie.Need-returns-4
-returns-4 c = c .reply-of .ensures ∙ ap replyOf (c .before .make .ensures) ∙ sym (with-room _ _ _ _ _ (omega arith) (omega arith) ∙ absent-large _ _ _ _ (c .before .before .before .enum-told .given .1) (c .before .before .if3 .left))
+returns-4 c =
+    let made = c .before in
+    let large = made .before in
+    let none = large .before in
+    c .reply-of .ensures ∙ ap replyOf (made .make .ensures)
+    ∙ sym (with-room _ _ _ _ _ (omega arith) (omega arith) ∙ absent-large _ _ _ _ (none .enum-told .given .1) (large .if3 .left))
 
 returns-5 : tie.Need-returns-5
 returns-5 c = c .reply-to .ensures ∙ sym (with-room _ _ _ _ _ (omega arith) (omega arith) ∙ given-at _ _ _ _ _ (c .before .before .request-block .given .1))

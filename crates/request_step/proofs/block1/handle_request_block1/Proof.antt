@@ -35,7 +35,8 @@ returns-3 c =
     let a = start .args in
     let good = rw (form .bad-form .ensures) at (well .if1 .left) in
     let follows = rw (next .not-next .ensures) at (after .if2 .left) in
-    let same : spliced .extending-splice .result ≡ spliceOf (a .config .upload) (lengthMet (a .config .strict) (a .assembled) (a .block)) (blockStart (a .block)) (blockSize (a .block)) (length (a .payload .now)) =
+    let l = lengthMet (a .config .strict) (a .assembled) (a .block) in
+    let same : spliced .extending-splice .result ≡ spliceOf (a .config .upload) l (blockStart (a .block)) (blockSize (a .block)) (length (a .payload .now)) =
     rw (← (start .pre .0), ← (met .length-met .ensures .0), ← (started .start .ensures .0), ← (sized .size .ensures)) (spliced .extending-splice .ensures .0) in
     let told = c .taken-as .ensures in (
       told ∙ ap (takenAs (a .block .more)) same ∙ sym (taken-next _ _ _ _ good follows),
