@@ -21,15 +21,14 @@ part-short m p = go (leb (p .from) (p .to) && leb (p .to) (length m))
     go true = simp (length-take, length-drop) (omega arith)
     go false = omega arith
 
-module _ (k : ℕ) where
-  abbrev Short : List ℕ → Type 0
-  Short l = length l ≤ k
+abbrev Short : ℕ → List ℕ → Type 0
+Short k l = length l ≤ k
 
-  pub shown-short : (a : Answer) (payload upload away : List ℕ) → Short payload → Short upload → Short away → Short (shownOf a payload upload away)
-  unfolding shownBy
-  shown-short a payload upload away h i j =
-      let n = numberOf a in
-      let p = said a .part in
-      on-test Short (is pass n) (λ _. h)
-      (λ _. on-test Short (is handed n) (λ _. omega (arith, part-short upload p))
-      (λ _. on-test Short (is served n) (λ _. omega (arith, part-short away p)) (λ _. omega (arith, part-short payload p))))
+pub shown-short : (a : Answer) (payload upload away : List ℕ) (k : ℕ) → Short k payload → Short k upload → Short k away → Short k (shownOf a payload upload away)
+unfolding shownBy
+shown-short a payload upload away k h i j =
+    let n = numberOf a in
+    let p = said a .part in
+    on-test (Short k) (is pass n) (λ _. h)
+    (λ _. on-test (Short k) (is handed n) (λ _. omega (arith, part-short upload p))
+    (λ _. on-test (Short k) (is served n) (λ _. omega (arith, part-short away p)) (λ _. omega (arith, part-short payload p))))

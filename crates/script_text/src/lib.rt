@@ -72,7 +72,7 @@ fn digit_of(b: bool) -> u8
 }
 
 // num/more/size
-pub fn put_block(out: &mut [u8], at: usize, block: BlockValue) -> usize
+fn put_block(out: &mut [u8], at: usize, block: BlockValue) -> usize
     requires { ⌜ at + 50 ≤ length (now out) ⌝ }
     ensures { λ r. ⌜ Put (now (out .entry)) at (blockText block) (now (out .exit)) r ⌝ }
     ensures { λ r. ⌜ r ≤ at + 50 ⌝ }
