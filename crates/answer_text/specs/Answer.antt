@@ -3,14 +3,13 @@ use Prim.Native.Nat.{ℕ}
 use mathlib.Core.Bool.{cond, _||_}
 use mathlib.Core.List.{List, [], _∷_, _++_}
 use Rattle.negotiation.specs.declared.MaybeBlock.{MaybeBlock}
-use Rattle.negotiation.specs.declared.MaybeBlock.the-variants.{Absent, Given}
 use Rattle.block_state.specs.declared.Kind.{Kind}
 use Rattle.block_state.specs.declared.Kind.the-variants.{Continue, TooLarge, Handed, Pass, Served, Plain, Whole, First, Refused}
 use Rattle.block_state.specs.declared.Said.{Said}
 use Rattle.block_state.specs.declared.Answer.{Answer}
 use Rattle.block_state.specs.Answers.{continue, tooLarge, plain, refusal, kindNumber, said}
 use Rattle.answers.specs.Parts.{is}
-use Rattle.script_text.specs.Text.{decimal, shown, blockText, none}
+use Rattle.script_text.specs.Text.{decimal, shown, maybeText, none}
 
 -- The answer's name; a refusal's has its number.
 abbrev pub nameText : Kind → ℕ → List ℕ
@@ -23,10 +22,6 @@ nameText Plain n = 80 ∷ 108 ∷ 97 ∷ 105 ∷ 110 ∷ []
 nameText Whole n = 87 ∷ 104 ∷ 111 ∷ 108 ∷ 101 ∷ []
 nameText First n = 70 ∷ 105 ∷ 114 ∷ 115 ∷ 116 ∷ []
 nameText Refused n = (114 ∷ 101 ∷ 102 ∷ 117 ∷ 115 ∷ 101 ∷ 100 ∷ 45 ∷ []) ++ decimal n
-
-abbrev pub maybeText : MaybeBlock → List ℕ
-maybeText Absent = none
-maybeText (Given b) = blockText b
 
 -- The body or the chunk, where an answer of number k has one.
 abbrev pub bytesText : ℕ → List ℕ → List ℕ

@@ -8,7 +8,7 @@ ghost use mathlib.Core.Path.{_≡_};
 ghost use Prim.Native.Nat.{_+_, _*_, _≤_};
 ghost use lib.ListN.{length};
 ghost use Rattle.pieces.specs.Memory.{Put};
-ghost use Rattle.answer_text.specs.Answer.{nameText, maybeText, bytesText, blocksText, answerText, unreadableText};
+ghost use Rattle.answer_text.specs.Answer.{nameText, bytesText, blocksText, answerText, unreadableText};
 ghost use Rattle.answer_text.specs.Shown.{shownBy, shownOf};
 
 fn put_name(out: &mut [u8], at: usize, kind: Kind, number: u8) -> usize
@@ -32,17 +32,6 @@ fn put_name(out: &mut [u8], at: usize, kind: Kind, number: u8) -> usize
     }
 }
 
-fn put_maybe(out: &mut [u8], at: usize, block: MaybeBlock) -> usize
-    requires { ⌜ at + 50 ≤ length (now out) ⌝ }
-    ensures { λ r. ⌜ Put (now (out .entry)) at (maybeText block) (now (out .exit)) r ⌝ }
-    ensures { λ r. ⌜ r ≤ at + 50 ⌝ }
-{
-    match block {
-        MaybeBlock::Given(b) => script_text::put_block(out, at, b),
-        MaybeBlock::Absent => pieces::put_byte(out, at, b'-'),
-    }
-}
-
 // Both with a space before them, and one after.
 fn put_blocks(out: &mut [u8], at: usize, block1: MaybeBlock, block2: MaybeBlock) -> usize
     requires { ⌜ at + 103 ≤ length (now out) ⌝ }
@@ -50,9 +39,9 @@ fn put_blocks(out: &mut [u8], at: usize, block1: MaybeBlock, block2: MaybeBlock)
     ensures { λ r. ⌜ r ≤ at + 103 ⌝ }
 {
     let k = pieces::put_byte(out, at, b' ');
-    let k = put_maybe(out, k, block1);
+    let k = script_text::put_maybe(out, k, block1);
     let k = pieces::put_byte(out, k, b' ');
-    let k = put_maybe(out, k, block2);
+    let k = script_text::put_maybe(out, k, block2);
     pieces::put_byte(out, k, b' ')
 }
 

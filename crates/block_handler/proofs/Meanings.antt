@@ -24,6 +24,7 @@ use Rattle.request_step.specs.Step.{stepWith, askedBy}
 use Rattle.request_step.proofs.Steps.{step-read}
 use Rattle.response_step.specs.Step.{stepResponse}
 use Rattle.keys.specs.declared.Key.{Key}
+use Rattle.keys.specs.Keys.{Name, stored}
 use Rattle.entries.specs.declared.Entry.{Entry}
 use Rattle.block_table.specs.declared.Table.{Table}
 use Rattle.block_table.specs.Table.{sweep, tableWith}
@@ -91,11 +92,11 @@ refusal w t n a e f = λ k. done (world (e k) (w .upload) (w .response)) (f k)
 -- ---- a change of the table
 
 -- an entry that is put where it was seen
-pub stays : (c : Config) (time : ℕ) (key : List ℕ) (t : Table) (s : Sight) → Sees c time key t s → tableWith (s .clock) (t .entries) (s .at) (s .entry) ≡ t
+pub stays : (c : Config) (time : ℕ) (key : Name) (t : Table) (s : Sight) → Sees c time key t s → tableWith (s .clock) (t .entries) (s .at) (s .entry) ≡ t
 unfolding sightAt
 stays c time key t s h = (λ k. tableWith (h .0 k .clock) (t .entries) (h .0 k .at) (h .0 k .entry)) ∙ with-own t (indexOf (placeIn c time key t))
 
-pub seen-below : (c : Config) (time : ℕ) (key : List ℕ) (t : Table) (s : Sight) → Sees c time key t s → s .at < 16
+pub seen-below : (c : Config) (time : ℕ) (key : Name) (t : Table) (s : Sight) → Sees c time key t s → s .at < 16
 unfolding sightAt
 seen-below c time key t s h = rw (ap (λ (z : Sight). z .at) (h .0)) (below (placeIn c time key t))
   where
@@ -109,16 +110,16 @@ seen-below c time key t s h = rw (ap (λ (z : Sight). z .at) (h .0)) (below (pla
 
 -- ---- a call at its place i, seen so
 
-module _ (c : Config) (s : Sight) (time : ℕ) (key : List ℕ) (n : Lengths) (i : ℕ) (t : Table) (has : HasPlace c s time key n i t) where
+module _ (c : Config) (s : Sight) (time : ℕ) (key : Name) (n : Lengths) (i : ℕ) (t : Table) (has : HasPlace c s time key n i t) where
   abbrev swept-row : List Entry
   swept-row = sweep (c .lifetime) time (t .entries)
 
   -- the entry that it starts from
-  pub opened-at : openedFrom (c .lifetime) time key (s .entry) ≡ opened key swept-row
+  pub opened-at : (own : Key) → own ≡ stored key → openedFrom (c .lifetime) time own (s .entry) ≡ opened key swept-row
   unfolding opened
-  opened-at =
+  opened-at own is-own =
       let here = at-place c t time key n i (has .1) in
-      rw (seen-entry c s time key n i t has, ← (here .is), ← at-sweep (c .lifetime) time (t .entries) i)
+      rw (is-own, seen-entry c s time key n i t has, ← (here .is), ← at-sweep (c .lifetime) time (t .entries) i)
 
   -- its change: the entry is put into the swept row, which may be the row itself
   pub changed-at : (k : Key) (g : Stepped) → changed (c .lifetime) time t (changeTo s i time k g) ≡ tableAfter swept-row time i k (g .state)

@@ -16,7 +16,7 @@ use Rattle.response_step.specs.Step.{stepResponse}
 use Rattle.keys.specs.declared.Key.{Key}
 use Rattle.entries.specs.declared.Entry.{Entry}
 use Rattle.block_table.specs.declared.Table.{Table}
-use Rattle.keys.specs.Keys.{keyOk}
+use Rattle.keys.specs.Keys.{Name, keyOk}
 use Rattle.entries.specs.Entries.{inUse}
 use Rattle.block_table.specs.Table.{tableOk, sweep, tableWith}
 use Rattle.places.specs.Places.{place, opened}
@@ -30,7 +30,7 @@ pub record World : Type 0 where
 
 pub record Call : Type 0 where
   pub time : ℕ
-  pub key : List ℕ
+  pub key : Name
   pub what : What
 
 pub record Done : Type 0 where

@@ -15,12 +15,14 @@ use Rattle.block_state.specs.State.{nothing}
 use Rattle.request_step.specs.declared.Asked.{Asked}
 use Rattle.request_step.specs.Step.{stepWith}
 use Rattle.keys.specs.declared.Key.{Key}
-use Rattle.keys.specs.Keys.{stored}
+use Rattle.keys.specs.Keys.{Name, stored}
 use Rattle.entries.specs.declared.Entry.{Entry}
 use Rattle.entries.specs.Entries.{inUse, swept}
 use Rattle.block_table.specs.declared.Table.{Table}
 use Rattle.block_table.specs.Table.{sweep, tableWith}
 use Rattle.places.specs.declared.Sight.{Sight}
+use Rattle.judge.specs.declared.Lengths.{Lengths}
+use Rattle.judge.specs.Verdict.{HasPlace}
 use Rattle.block_handler.specs.declared.Change.{Change}
 use Rattle.block_handler.specs.Call.{World, Call, Done, done, requestLeft, call}
 
@@ -28,10 +30,10 @@ abbrev pub world : Table → List ℕ → List ℕ → World
 world t u d = record { table = t; upload = u; response = d }
 
 -- A request and a response, as the code's parameters make them.
-abbrev pub requestCall : RequestNumbers → List ℕ → List ℕ → List ℕ → List ℕ → Call
+abbrev pub requestCall : RequestNumbers → Name → List ℕ → List ℕ → List ℕ → Call
 requestCall q key block1 block2 payload = record { time = q .time; key = key; what = request (asking q block1 block2 payload) }
 
-abbrev pub responseCall : ResponseNumbers → List ℕ → List ℕ → List ℕ → Call
+abbrev pub responseCall : ResponseNumbers → Name → List ℕ → List ℕ → Call
 responseCall q key head payload = record { time = q .time; key = key; what = response (replying q head payload) }
 
 -- From this table and these memories, the call leaves those and answers so.
@@ -45,8 +47,12 @@ changed lifetime time t g = tableWith (g .clock) (cond (g .freed) (sweep lifetim
 -- ---- How the code makes a call at its place. No contract of the two calls cites these.
 
 -- The entry that a call on the key starts from, of the one at its place before the sweep.
-abbrev pub openedFrom : ℕ → ℕ → List ℕ → Entry → Entry
-openedFrom lifetime time key e = cond (swept lifetime time e .used) (swept lifetime time e) (inUse (stored key) 0 nothing)
+abbrev pub openedFrom : ℕ → ℕ → Key → Entry → Entry
+openedFrom lifetime time key e = cond (swept lifetime time e .used) (swept lifetime time e) (inUse key 0 nothing)
+
+-- The table seen so has place i for a call on the key of this name, stored so.
+abbrev pub Placed : Config → Sight → Key → ℕ → Lengths → ℕ → Name → Table → Type 0
+Placed c s key time n i name t = (key ≡ stored name) × HasPlace c s time name n i t
 
 -- What a step on the entry at i leaves, as a change.
 abbrev pub changeTo : Sight → ℕ → ℕ → Key → Stepped → Change

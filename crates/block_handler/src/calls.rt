@@ -15,20 +15,21 @@ use places::Sight;
 use request_step::Asked;
 ghost use mathlib.Core.Path.{_≡_};
 ghost use mathlib.Core.List.{List};
-ghost use Prim.Native.Nat.{ℕ, _≤_, _<_};
+ghost use Prim.Native.Nat.{ℕ, _<_};
 ghost use lib.ListN.{length};
 ghost use Rattle.block_state.specs.Message.{response};
 ghost use Rattle.block_state.specs.Contract.{replying};
 ghost use Rattle.block_table.specs.Table.{sweep};
 ghost use Rattle.places.specs.Places.{opened};
 ghost use Rattle.places.specs.Sight.{Sees};
-ghost use Rattle.judge.specs.Verdict.{lengths, HasPlace};
+ghost use Rattle.keys.specs.Keys.{Name};
+ghost use Rattle.judge.specs.Verdict.{lengths};
 ghost use Rattle.block_handler.specs.Call.{done, callAt};
-ghost use Rattle.block_handler.specs.Contract.{world, requestCall, responseCall, Meant, changed, openedFrom, changeTo, askedAt};
+ghost use Rattle.block_handler.specs.Contract.{world, requestCall, responseCall, Meant, changed, openedFrom, Placed, changeTo, askedAt};
 
 // A refusal changes nothing: the entry that is seen is put back where it stood.
 fn refused(sight: Sight, n: u8) -> Change
-    ensures { λ r. ⌜ ((c : Config) (lifetime time : ℕ) (key : List ℕ) (t : Table) → Sees c time key t sight → changed lifetime time t r ≡ t) × (r .answer ≡ Answer.Refused n) × (r .at ≡ sight .at) ⌝ }
+    ensures { λ r. ⌜ ((c : Config) (lifetime time : ℕ) (k : Name) (t : Table) → Sees c time k t sight → changed lifetime time t r ≡ t) × (r .answer ≡ Answer.Refused n) × (r .at ≡ sight .at) ⌝ }
 {
     let entry = sight.entry;
     let answer = Answer::Refused(n);
@@ -42,9 +43,8 @@ fn refused(sight: Sight, n: u8) -> Change
 }
 
 // The entry that a call at its place starts from.
-fn opened_entry(config: Config, sight: Sight, time: u64, key: &[u8]) -> Entry
-    requires { ⌜ length (now key) ≤ 64 ⌝ }
-    ensures { λ r. ⌜ r ≡ openedFrom (config .lifetime) time (now (key .entry)) (sight .entry) ⌝ }
+fn opened_entry(config: Config, sight: Sight, time: u64, key: Key) -> Entry
+    ensures { λ r. ⌜ r ≡ openedFrom (config .lifetime) time key (sight .entry) ⌝ }
 {
     let old = sight.entry;
     entries::start_from(entries::swept_entry(old, config.lifetime, time), key)
@@ -76,13 +76,13 @@ fn request_at(
     config: Config,
     sight: Sight,
     upload: &mut [u8],
-    key: &[u8],
+    key: Key,
     i: usize,
     asked: Asked,
     payload: &[u8],
 ) -> Change
-    requires { ⌜ ((v : ℕ) × (t : Table) × HasPlace config sight (asked .time) (now key) (lengths (length (now upload)) v (asked .bare) (length (now payload)) 0) i t) ⌝ }
-    ensures { λ r. ⌜ ((v : ℕ) (t : Table) → HasPlace config sight (asked .time) (now (key .entry)) (lengths (length (now (upload .entry))) v (asked .bare) (length (now (payload .entry))) 0) i t → (d : List ℕ) → done (world (changed (config .lifetime) (asked .time) t r) (now (upload .exit)) d) (r .answer) ≡ askedAt config (world t (now (upload .entry)) d) (sweep (config .lifetime) (asked .time) (t .entries)) i (opened (now (key .entry)) (sweep (config .lifetime) (asked .time) (t .entries))) asked (now (payload .entry))) × (r .at ≡ i) ⌝ }
+    requires { ⌜ ((k : Name) × (v : ℕ) × (t : Table) × Placed config sight key (asked .time) (lengths (length (now upload)) v (asked .bare) (length (now payload)) 0) i k t) ⌝ }
+    ensures { λ r. ⌜ ((k : Name) (v : ℕ) (t : Table) → Placed config sight key (asked .time) (lengths (length (now (upload .entry))) v (asked .bare) (length (now (payload .entry))) 0) i k t → (d : List ℕ) → done (world (changed (config .lifetime) (asked .time) t r) (now (upload .exit)) d) (r .answer) ≡ askedAt config (world t (now (upload .entry)) d) (sweep (config .lifetime) (asked .time) (t .entries)) i (opened k (sweep (config .lifetime) (asked .time) (t .entries))) asked (now (payload .entry))) × (r .at ≡ i) ⌝ }
 {
     let e = opened_entry(config, sight, asked.time, key);
     let state = e.state;
@@ -107,14 +107,14 @@ fn response_at<'a>(
     config: Config,
     sight: Sight,
     response: &mut [u8],
-    key: &'a [u8],
+    key: Key,
     i: usize,
     numbers: ResponseNumbers,
     head: &'a [u8],
     payload: &'a [u8],
 ) -> Change
-    requires { ⌜ ((u : ℕ) × (t : Table) × HasPlace config sight (numbers .time) (now key) (lengths u (length (now response)) (numbers .bare) (length (now payload)) (length (now head))) i t) ⌝ }
-    ensures { λ r. ⌜ ((u : ℕ) (t : Table) → HasPlace config sight (numbers .time) (now (key .entry)) (lengths u (length (now (response .entry))) (numbers .bare) (length (now (payload .entry))) (length (now (head .entry)))) i t → (m : List ℕ) → done (world (changed (config .lifetime) (numbers .time) t r) m (now (response .exit))) (r .answer) ≡ callAt config (world t m (now (response .entry))) (numbers .time) (sweep (config .lifetime) (numbers .time) (t .entries)) i (opened (now (key .entry)) (sweep (config .lifetime) (numbers .time) (t .entries))) (Rattle.block_state.specs.Message.response (replying numbers (now (head .entry)) (now (payload .entry))))) × (r .at ≡ i) ⌝ }
+    requires { ⌜ ((k : Name) × (u : ℕ) × (t : Table) × Placed config sight key (numbers .time) (lengths u (length (now response)) (numbers .bare) (length (now payload)) (length (now head))) i k t) ⌝ }
+    ensures { λ r. ⌜ ((k : Name) (u : ℕ) (t : Table) → Placed config sight key (numbers .time) (lengths u (length (now (response .entry))) (numbers .bare) (length (now (payload .entry))) (length (now (head .entry)))) i k t → (m : List ℕ) → done (world (changed (config .lifetime) (numbers .time) t r) m (now (response .exit))) (r .answer) ≡ callAt config (world t m (now (response .entry))) (numbers .time) (sweep (config .lifetime) (numbers .time) (t .entries)) i (opened k (sweep (config .lifetime) (numbers .time) (t .entries))) (Rattle.block_state.specs.Message.response (replying numbers (now (head .entry)) (now (payload .entry))))) × (r .at ≡ i) ⌝ }
 {
     let e = opened_entry(config, sight, numbers.time, key);
     let state = e.state;
@@ -166,12 +166,14 @@ pub fn request_change<'a>(
         payload: payload.len(),
         head: 0,
     };
-    let sight = places::look(config, table, numbers.time, key);
+    let named = keys::named(key);
+    let sight = places::look(config, table, numbers.time, named);
+    let own = named.key;
     match judge::judge(config, sight, numbers.time, lengths) {
         Verdict::Refused(n) => refused(sight, n),
         Verdict::Place(i) => {
             let asked = request_step::read_options(config, numbers, block1, block2);
-            request_at(config, sight, upload, key, i, asked, payload)
+            request_at(config, sight, upload, own, i, asked, payload)
         }
     }
 }
@@ -229,10 +231,12 @@ pub fn response_change<'a>(
         payload: payload.len(),
         head: head.len(),
     };
-    let sight = places::look(config, table, numbers.time, key);
+    let named = keys::named(key);
+    let sight = places::look(config, table, numbers.time, named);
+    let own = named.key;
     match judge::judge(config, sight, numbers.time, lengths) {
         Verdict::Refused(n) => refused(sight, n),
-        Verdict::Place(i) => response_at(config, sight, response, key, i, numbers, head, payload),
+        Verdict::Place(i) => response_at(config, sight, response, own, i, numbers, head, payload),
     }
 }
 

@@ -1,4 +1,4 @@
--- Strict mode's two checks in words, and the length that a block meets: no other proof here looks into their definitions. Assumes nothing.
+-- Strict mode's two checks in words, and the length that a block meets: but to compute with them, no other proof here looks into their definitions. Assumes nothing.
 use Prim.Native.Nat.{ℕ, zero, suc, _*_, _≤_}
 use mathlib.Core.Bool.{Bool, true, false, not, _&&_, _||_}
 use mathlib.Core.Path.{_≡_, refl}

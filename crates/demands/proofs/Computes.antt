@@ -24,7 +24,7 @@ unfoldable pub memories : Unit {0}
 unfolding memory.patch memory.part memory.within memory.pieceOf memory.putPiece splice.spliceOf splice.spliced splice.pieceAfter
 memories = tt
 
-unfoldable pub taking : Unit {0}
+unfoldable taking : Unit {0}
 unfolding values memories block1.badForm block1.notNext block1.lengthMet block1.taken block1.onSplice block1.block1Given block2.served block2.onward
 taking = tt
 

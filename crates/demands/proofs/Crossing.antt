@@ -8,24 +8,16 @@ use lib.ListN.{length, take, take-append-drop}
 use lib.Seq.{take-at, drop-at}
 use lib.Dec.{leb}
 use borrow.Author.Tests.{leb-true, leb-false, lt-ltb}
-use Rattle.pieces.proofs.Tests.{ands, and-left, and-right, and-both, by-cases, on-test, clash-of, refute}
+use Rattle.pieces.proofs.Tests.{ands, and-left, and-right, and-both, by-cases, clash-of, refute}
 use Rattle.config.specs.declared.Config.{Config}
 use Rattle.block_state.specs.declared.Assembled.{Assembled}
 use Rattle.block_state.specs.declared.BlockState.{BlockState}
 use Rattle.block_state.specs.declared.Answer.the-variants.{Refused}
-use Rattle.block_state.specs.Message.{Response, What, request, response}
+use Rattle.block_state.specs.Message.{What, request, response}
 use Rattle.block_state.specs.State.{assembly}
-use Rattle.response_step.specs.Step.{stepResponse}
 use Rattle.pieces.specs.Memory.{pieceOf}
-use Rattle.keys.specs.Keys.{same, keyOk}
-use Rattle.keys.proofs.Keys.{same-eq}
-use Rattle.entries.specs.declared.Entry.{Entry}
-use Rattle.entries.specs.Entries.{holds, live, swept}
-use Rattle.entries.proofs.Entries.{holds-new}
-use Rattle.block_table.proofs.Row.{Unique, at-sweep, at-set}
-use Rattle.block_table.proofs.TableFits.{row-length}
-use Rattle.places.specs.Places.{place, opened}
-use Rattle.places.proofs.Places.{opened-key}
+use Rattle.keys.specs.Keys.{keyOk}
+use Rattle.block_table.proofs.Row.{Unique}
 use Rattle.block_handler.specs.Call.{World, Call, Done, done, whatOk, callAt, rowOf, withinLimits, call}
 use Rattle.block_handler.proofs.Frame.{WorldFits, fits-limits, call-fits, call-placed}
 use Rattle.demands.specs.Demand3.{Seen, after, Sent, callOn, joined, Rising, All, AllBytes, entryAt}
@@ -33,48 +25,35 @@ use Rattle.demands.specs.Clocks.{asks, requestsOn, runOn, OwnRising}
 use Rattle.demands.specs.Twice.{lastOf}
 use Rattle.demands.specs.Crossing.{inForm, counts, counted, seenCounted, UncountedRefused, among, AllAmong, FromFresh, Transfer, AllProper, callsOf, HandsAll}
 use Rattle.demands.specs.Crossing.{MorningsCross, SixteenCross, UncountedAreRefused}
-use Rattle.demands.proofs.Outcomes.{storing-assembled, early-or-placed}
+use Rattle.demands.proofs.Outcomes.{placeOf, openedOf, storing-assembled, early-or-placed}
 use Rattle.demands.proofs.Runs.{asks-own, all-front, all-behind, seen-cut, none-seen, Cut, cut, rising-cut, rising-own, fresh-entry, fresh-fits, after-fits, after-clock}
 use Rattle.demands.proofs.Held.{Held}
-use Rattle.demands.proofs.Push.{Pushed, none-first, ready-first, pass, push-from, firstOf, blocks-follow}
-use Rattle.demands.proofs.Sixteen.{call-entries, Over, over-call, over-after, has-place}
+use Rattle.demands.proofs.Known.{Known, opened-known, put-known}
+use Rattle.demands.proofs.Push.{Pushed, ready-first, pass, push-from, firstOf, blocks-follow}
+use Rattle.demands.proofs.Sixteen.{Over, over-call, over-after, has-place}
 
 -- ---- between two pushes: no entry of the key's has anything assembled
 
+abbrev Empty : ℕ → BlockState → Type 0
+Empty i s = s .assembled .len ≡ 0
+
 abbrev Idle : List ℕ → World → Type 0
-Idle k w = (i : ℕ) → i < 16 → holds k (entryAt w i) ≡ true → entryAt w i .state .assembled .len ≡ 0
+Idle k w = Known w k Empty
 
-idle-other : (c : Config) (w : World) (k : List ℕ) (q : Call) → WorldFits c w → same k (q .key) ≡ false → Idle k w → Idle k (call c w q .world)
-idle-other c w k q f ne idle =
-    let long = row-length c (w .table) (q .time) (f .table) (f .sixteen) in
-    call-entries (λ e. holds k e ≡ true → e .state .assembled .len ≡ 0) c w q f (λ h. refl)
-    (λ s h. absurd (clash-of (same k (q .key)) (sym (holds-new k (q .key) (opened (q .key) (rowOf c w q) .key) (q .time) s (opened-key (q .key) (rowOf c w q) long)) ∙ h) ne)) idle
+-- nor after any call that is no request on the key
+module _ (c : Config) (w : World) (k : List ℕ) (q : Call) (f : WorldFits c w) (other : asks k q ≡ false) (idle : Idle k w) where
+  abbrev here : ℕ
+  here = placeOf c w q
 
--- nor after a response on the key
-idle-response : (c : Config) (w : World) (k : List ℕ) (q : Call) (r : Response) → WorldFits c w → k ≡ q .key → q .what ≡ response r → Idle k w → Idle k (call c w q .world)
-unfolding callAt swept
-idle-response c w k q r f mine is idle =
-    early-or-placed (λ (d : Done). Idle k (d .world)) c w q (λ n h. idle)
-    (λ ok later i16.
-    let i : ℕ = place (q .key) (rowOf c w q) in
-    let s : BlockState = opened (q .key) (rowOf c w q) .state in
-    let d : List ℕ = pieceOf (c .response) i (w .response) in
-    let long : length (rowOf c w q) ≡ 16 = row-length c (w .table) (q .time) (f .table) (f .sixteen) in
-    let none : s .assembled .len ≡ 0 = rw mine at (none-first c w k (q .time) f later (λ j b h l. idle j b h) (rw mine i16)) in
-    let step : stepResponse c s d r .state .assembled .len ≡ 0 = ap (λ (a : Assembled). a .len) (storing-assembled c s d r) ∙ none in
-    rw is
-    (λ j b.
-    at-set (rowOf c w q) i _ (omega (arith, long)) (λ j e. holds k e ≡ true → e .state .assembled .len ≡ 0) (λ h. step)
-    (λ j b ne. rw (at-sweep (c .lifetime) (q .time) (w .table .entries) j)
-    (on-test (λ (e : Entry). holds k e ≡ true → e .state .assembled .len ≡ 0) (live (c .lifetime) (q .time) (entryAt w j)) (λ _. idle j (omega (arith, long))) (λ _ h. refl)))
-    j (omega (arith, long))))
+  idle-placed : here < 16 → (x : What) → q .what ≡ x → Idle k (callAt c w (q .time) (rowOf c w q) here (openedOf c w q) x .world)
+  unfolding callAt
+  idle-placed b (request r) is = put-known c w q k f Empty idle Empty _ b (λ y. absurd (false≢true (sym (rw (y, is) at other)))) (λ n j t ne empty. empty)
+  idle-placed b (response r) is =
+      let same-so = storing-assembled c (openedOf c w q .state) (pieceOf (c .response) here (w .response)) r in
+      put-known c w q k f Empty idle Empty _ b (λ y. ap (λ (a : Assembled). a .len) same-so ∙ opened-known c w q k f Empty idle b y refl) (λ n j t ne empty. empty)
 
-idle-any : (c : Config) (w : World) (k : List ℕ) (q : Call) → WorldFits c w → asks k q ≡ false → Idle k w → Idle k (call c w q .world)
-idle-any c w k q f other idle = by-cases (same k (q .key)) (λ y. own (q .what) refl y) (λ n. idle-other c w k q f n idle)
-  where
-    own : (x : What) → q .what ≡ x → same k (q .key) ≡ true → Idle k (call c w q .world)
-    own (request r) is y = absurd (false≢true (sym (rw (y, is) at other)))
-    own (response r) is y = idle-response c w k q r f (same-eq k (q .key) y) is idle
+  idle-any : Idle k (call c w q .world)
+  idle-any = early-or-placed (λ (d : Done). Idle k (d .world)) c w q (λ n h. idle) (λ ok later b. idle-placed b (q .what) refl)
 
 idle-others : (c : Config) (k : List ℕ) (calls : List Call) (w : World) → WorldFits c w → AllBytes calls → requestsOn k calls ≡ [] → Idle k w → Idle k (after call c w calls)
 idle-others c k [] w f ab none idle = idle
@@ -208,7 +187,7 @@ module _ (c : Config) (keys : List (List ℕ)) (few : length keys ≤ 16) where
       (has-place c w keys f over (q .key) (q .time) few mine) (and-right (keyOk (q .key)) (whatOk (q .what)) form))
       (at-clock (q .what))
     where
-      at-clock : (x : What) → callAt c w (q .time) (rowOf c w q) (place (q .key) (rowOf c w q)) (opened (q .key) (rowOf c w q)) x .world .table .clock ≡ q .time
+      at-clock : (x : What) → callAt c w (q .time) (rowOf c w q) (placeOf c w q) (openedOf c w q) x .world .table .clock ≡ q .time
       at-clock (request r) = refl
       at-clock (response r) = refl
 

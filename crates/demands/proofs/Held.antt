@@ -24,7 +24,7 @@ use Rattle.block_handler.specs.Call.{World, Call, Done, callAt, rowOf, call}
 use Rattle.block_handler.proofs.Frame.{WorldFits, call-fits, other-keeps}
 use Rattle.demands.specs.Demand3.{after, All, AllBytes, entryAt}
 use Rattle.demands.specs.Clocks.{asks, requestsOn}
-use Rattle.demands.proofs.Outcomes.{storing-assembled, early-or-placed}
+use Rattle.demands.proofs.Outcomes.{placeOf, openedOf, storing-assembled, early-or-placed}
 
 lifetime-least : (c : Config) → configOk c ≡ true → 0 < c .lifetime
 unfolding configOk
@@ -91,8 +91,8 @@ module _ (c : Config) (w : World) (k : List ℕ) (i last : ℕ) (g : Held c w k 
     response-leaves =
         early-or-placed (λ (d : Done). Leaves (d .world)) c w q (λ n h. (refl, refl, g .held, g .touched))
         (λ ok later i16.
-        let here : place (q .key) (rowOf c w q) ≡ i = rw mine at (held-place (q .time) soon) in
-        let from : opened (q .key) (rowOf c w q) ≡ entryAt w i = rw mine at (held-opened (q .time) soon) in
+        let here : placeOf c w q ≡ i = rw mine at (held-place (q .time) soon) in
+        let from : openedOf c w q ≡ entryAt w i = rw mine at (held-opened (q .time) soon) in
         let long = row-length c (w .table) (q .time) (g .fits .table) (g .fits .sixteen) in
         let key : keyOf (entryAt w i .key) ≡ q .key = rw from at (opened-key (q .key) (rowOf c w q) long) in
         let own : same k (q .key) ≡ true = rw (← mine) (same-refl k) in

@@ -7,6 +7,7 @@ pub mod OwnStep
 pub mod Outcomes
 pub mod Runs
 pub mod Held
+pub mod Known
 pub mod Push
 pub mod Demand3
 pub mod Compiled

@@ -1,7 +1,8 @@
 -- What a step can come to, gone through once: what is promised of a call's answer is read off these cases. Assumes nothing.
-use Prim.Native.Nat.{ℕ, _+_, _*_, _≤_, _<_}
+use Prim.Native.Nat.{ℕ, _+_, _-_, _*_, _≤_, _<_}
 use mathlib.Core.Bool.{Bool, true, false, cond, not, _&&_}
 use mathlib.Core.Path.{_≡_, refl, sym, _∙_, ap}
+use mathlib.Core.Logic.{_⊎_, inl, inr}
 use mathlib.Core.List.{List, _++_}
 use native.Mathlib.Omega.{arith}
 use lib.ListN.{length}
@@ -9,7 +10,7 @@ use lib.Dec.{leb, ltb}
 use borrow.Author.Tests.{not-false, ltb-false, leb-false}
 use Rattle.pieces.specs.Memory.{patch, pieceOf}
 use Rattle.pieces.proofs.Tests.{on-test}
-use Rattle.splicing.specs.Splice.{spliceOf, pieceAfter}
+use Rattle.splicing.specs.Splice.{splicedLength, spliceOf, pieceAfter}
 use Rattle.splicing.specs.declared.Splice.{Splice}
 use Rattle.splicing.specs.declared.Splice.the-variants as splice
 use Rattle.block_value.specs.Value.{blockSize, blockStart}
@@ -35,6 +36,7 @@ use Rattle.request_step.specs.Block2 as block2
 use Rattle.request_step.specs.Block1.{taken, onSplice, block1Given, badForm, notNext, lengthMet}
 use Rattle.request_step.specs.Step.{onNegotiated, stepRequest}
 use Rattle.response_step.specs.Step.{chunked, onReply, stepResponse}
+use Rattle.entries.specs.declared.Entry.{Entry}
 use Rattle.places.specs.Places.{place, opened}
 use Rattle.block_handler.specs.Call.{World, Call, Done, done, callAt, rowOf, withinLimits, call}
 use Rattle.demands.specs.Pages.{isFirst}
@@ -43,6 +45,17 @@ use Rattle.demands.specs.Agreed.{requestAgrees}
 pub cond-same : {A : Type 0} (b : Bool) (x : A) → cond b x x ≡ x
 cond-same true x = refl
 cond-same false x = refl
+
+-- a splice is refused with 6 or 7, or gives a body that fits
+abbrev Sized : ℕ → ℕ → ℕ → ℕ → ℕ → Splice → Type 0
+Sized u l a s p (splice.Refused n) = (n ≡ 6) ⊎ (n ≡ 7)
+Sized u l a s p (splice.Body n) = (n ≡ splicedLength l a s p) × (n ≤ u)
+
+sized : (u l a s p : ℕ) → Sized u l a s p (spliceOf u l a s p)
+unfolding spliceOf
+sized u l a s p =
+    on-test (Sized u l a s p) (ltb 16384 (a + s - l)) (λ _. inl refl)
+    (λ _. on-test (Sized u l a s p) (ltb u (splicedLength l a s p)) (λ _. inr refl) (λ fits. (refl, ltb-false u (splicedLength l a s p) fits)))
 
 module _ (c : Config) (home away : ℕ) (s : BlockState) (u : List ℕ) (r : Request) where
   -- the length that a block meets, and the piece once it is spliced
@@ -58,7 +71,8 @@ module _ (c : Config) (home away : ℕ) (s : BlockState) (u : List ℕ) (r : Req
     pub reached : requestAgrees c r ≡ agreed.Block reply
     pub form : (c .strict && badForm b (length (r .payload))) ≡ false
     pub next : (c .strict && notNext (s .assembled) b) ≡ false
-    pub body : spliceOf (c .upload) (met b) (blockStart b) (blockSize b) (length (r .payload)) ≡ splice.Body n
+    pub long : n ≡ splicedLength (met b) (blockStart b) (blockSize b) (length (r .payload))
+    pub fits : n ≤ c .upload
 
   -- the Block1 value that goes out, the answer if nothing is served, and what is left of the assembly and of its piece
   pub data Block1 : MaybeBlock → Answer → Assembled → List ℕ → Type 0 where
@@ -72,7 +86,7 @@ module _ (c : Config) (home away : ℕ) (s : BlockState) (u : List ℕ) (r : Req
         → (c .strict && badForm b (length (r .payload))) ≡ true → Why 10
     astray : (b reply : BlockValue) → requestBlock (r .block1) ≡ Given b → requestAgrees c r ≡ agreed.Block reply
         → (c .strict && badForm b (length (r .payload))) ≡ false → (c .strict && notNext (s .assembled) b) ≡ true → Why 9
-    unspliced : (b : BlockValue) (n : ℕ) → spliceOf (c .upload) (met b) (blockStart b) (blockSize b) (length (r .payload)) ≡ splice.Refused n → Why n
+    unspliced : (n : ℕ) → (n ≡ 6) ⊎ (n ≡ 7) → Why n
 
   pub data Outcome : Left → Type 0 where
     refused : (n : ℕ) → Why n → Outcome (left s u (Refused n))
@@ -105,14 +119,16 @@ module _ (c : Config) (home away : ℕ) (s : BlockState) (u : List ℕ) (r : Req
         on-test Outcome (t .cached .held) (λ held. of-chunk (sym (ap (λ (y : Cached). y .held) e) ∙ held) x asks (chunkOf x (t .cached .payload)) same)
         (λ _. onwards _ v block1 a z k left-so e)
 
-  of-splice : (b reply : BlockValue) → ((n : ℕ) → spliceOf (c .upload) (met b) (blockStart b) (blockSize b) (length (r .payload)) ≡ splice.Body n → TookBlock b reply n)
-      → (sp : Splice) → spliceOf (c .upload) (met b) (blockStart b) (blockSize b) (length (r .payload)) ≡ sp
+  of-splice : (b reply : BlockValue)
+      → ((n : ℕ) → n ≡ splicedLength (met b) (blockStart b) (blockSize b) (length (r .payload)) → n ≤ c .upload → TookBlock b reply n)
+      → (sp : Splice) → Sized (c .upload) (met b) (blockStart b) (blockSize b) (length (r .payload)) sp
       → Outcome (onSplice home away s u (requestBlock (r .block2)) (r .payload) b reply (met b) sp)
   unfolding onSplice taken
-  of-splice b reply k (splice.Refused n) is = refused n (unspliced b n is)
+  of-splice b reply k (splice.Refused n) is = refused n (unspliced n is)
   of-splice b reply k (splice.Body n) is =
-      on-test Outcome (b .more) (λ _. continued _ b reply n (k n is) refl refl)
-      (λ _. of-block2 _ _ (Given reply) _ _ (took b reply n (k n is)) refl refl (requestBlock (r .block2)) refl)
+      let it : TookBlock b reply n = k n (is .0) (is .1) in
+      on-test Outcome (b .more) (λ _. continued _ b reply n it refl refl)
+      (λ _. of-block2 _ _ (Given reply) _ _ (took b reply n it) refl refl (requestBlock (r .block2)) refl)
 
   of-negotiated : (block1 : MaybeBlock) → requestBlock (r .block1) ≡ block1 → (n : Negotiated) → requestAgrees c r ≡ n
       → Outcome (onNegotiated c home away s u (requestBlock (r .block2)) (r .payload) block1 n)
@@ -123,8 +139,8 @@ module _ (c : Config) (home away : ℕ) (s : BlockState) (u : List ℕ) (r : Req
   of-negotiated (Given b) given (agreed.Block reply) e =
       on-test Outcome (c .strict && badForm b (length (r .payload))) (λ y. refused 10 (badly b reply given e y))
       (λ form. on-test Outcome (c .strict && notNext (s .assembled) b) (λ y. refused 9 (astray b reply given e form y))
-      (λ next. of-splice b reply (λ n is. record { given = given; reached = e; form = form; next = next; body = is })
-      (spliceOf (c .upload) (met b) (blockStart b) (blockSize b) (length (r .payload))) refl))
+      (λ next. of-splice b reply (λ n long fits. record { given = given; reached = e; form = form; next = next; long = long; fits = fits })
+      (spliceOf (c .upload) (met b) (blockStart b) (blockSize b) (length (r .payload))) (sized _ _ _ _ _)))
 
   pub outcome : Outcome (stepRequest c home away s u r)
   unfolding stepRequest
@@ -189,37 +205,46 @@ module _ (c : Config) (s : BlockState) (d : List ℕ) (r : Response) where
   unstored a crowded = refl
   unstored a (whole y from to k) = refl
 
+-- ---- calls
+
+-- the place of the call's key, and the entry that the call starts from
+abbrev pub placeOf : Config → World → Call → ℕ
+placeOf c w q = place (q .key) (rowOf c w q)
+
+abbrev pub openedOf : Config → World → Call → Entry
+openedOf c w q = opened (q .key) (rowOf c w q)
+
 -- a call is refused by the first three checks, with nothing changed, or has its place
 pub early-or-placed : (P : Done → Type 0) (c : Config) (w : World) (q : Call) → ((n : ℕ) → (1 ≤ n) × (n ≤ 3) → P (done w (Refused n)))
-    → (withinLimits c w q ≡ true → w .table .clock ≤ q .time → place (q .key) (rowOf c w q) < 16
-    → P (callAt c w (q .time) (rowOf c w q) (place (q .key) (rowOf c w q)) (opened (q .key) (rowOf c w q)) (q .what)))
+    → (withinLimits c w q ≡ true → w .table .clock ≤ q .time → placeOf c w q < 16
+    → P (callAt c w (q .time) (rowOf c w q) (placeOf c w q) (openedOf c w q) (q .what)))
     → P (call c w q)
 unfolding call
 early-or-placed P c w q early placed =
     on-test P (not (withinLimits c w q)) (λ _. early 1 (omega arith, omega arith))
     (λ ok. on-test P (ltb (q .time) (w .table .clock)) (λ _. early 2 (omega arith, omega arith))
-    (λ time. on-test P (leb 16 (place (q .key) (rowOf c w q))) (λ _. early 3 (omega arith, omega arith))
-    (λ room. placed (not-false (withinLimits c w q) ok) (ltb-false (q .time) (w .table .clock) time) (leb-false 16 (place (q .key) (rowOf c w q)) room))))
+    (λ time. on-test P (leb 16 (placeOf c w q)) (λ _. early 3 (omega arith, omega arith))
+    (λ room. placed (not-false (withinLimits c w q) ok) (ltb-false (q .time) (w .table .clock) time) (leb-false 16 (placeOf c w q) room))))
 
 -- so a call's answer is an early refusal, or that of an outcome on its key's state
 module _ (P : Answer → Type 0) (c : Config) (w : World) (q : Call) (early : (n : ℕ) → (1 ≤ n) × (n ≤ 3) → P (Refused n)) where
-  abbrev its-place : ℕ
-  its-place = place (q .key) (rowOf c w q)
+  abbrev here : ℕ
+  here = placeOf c w q
 
-  abbrev its-state : BlockState
-  its-state = opened (q .key) (rowOf c w q) .state
+  abbrev state : BlockState
+  state = openedOf c w q .state
 
   pub answered : (r : Request) → q .what ≡ request r
-      → ((home away : ℕ) (u : List ℕ) (g : Left) → Outcome c home away its-state u r g → P (g .answer)) → P (call c w q .answer)
+      → ((home away : ℕ) (u : List ℕ) (g : Left) → Outcome c home away state u r g → P (g .answer)) → P (call c w q .answer)
   unfolding callAt
   answered r e step =
-      let u : List ℕ = pieceOf (c .upload) its-place (w .upload) in
-      let home : ℕ = its-place * c .upload in
-      let away : ℕ = its-place * c .response in
-      early-or-placed (λ (d : Done). P (d .answer)) c w q early (λ ok later i16. rw e (step home away u _ (outcome c home away its-state u r)))
+      let u : List ℕ = pieceOf (c .upload) here (w .upload) in
+      let home : ℕ = here * c .upload in
+      let away : ℕ = here * c .response in
+      early-or-placed (λ (d : Done). P (d .answer)) c w q early (λ ok later i16. rw e (step home away u _ (outcome c home away state u r)))
 
-  pub answered-response : (r : Response) → q .what ≡ response r → ((d : List ℕ) (g : Left) → Storing c its-state d r g → P (g .answer)) → P (call c w q .answer)
+  pub answered-response : (r : Response) → q .what ≡ response r → ((d : List ℕ) (g : Left) → Storing c state d r g → P (g .answer)) → P (call c w q .answer)
   unfolding callAt
   answered-response r e step =
-      let d : List ℕ = pieceOf (c .response) its-place (w .response) in
-      early-or-placed (λ (d : Done). P (d .answer)) c w q early (λ ok later i16. rw e (step d _ (storing c its-state d r)))
+      let d : List ℕ = pieceOf (c .response) here (w .response) in
+      early-or-placed (λ (d : Done). P (d .answer)) c w q early (λ ok later i16. rw e (step d _ (storing c state d r)))

@@ -44,7 +44,7 @@ abbrev pub unmarked : BlockValue → BlockValue
 unmarked b = block (b .num) false (b .«size_exponent»)
 
 -- a block that is left room comes out of the negotiation as it was asked, with no more, since its payload is no longer than its size
-pub room-agreed : (b : BlockValue) (bare p t : ℕ) → b .num ≤ 65535 → b .«size_exponent» ≤ 7 → p ≤ blockSize b → bare + 12 + blockSize b ≤ t
+room-agreed : (b : BlockValue) (bare p t : ℕ) → b .num ≤ 65535 → b .«size_exponent» ≤ 7 → p ≤ blockSize b → bare + 12 + blockSize b ≤ t
     → negotiated (Given b) bare p t ≡ Block (unmarked b)
 room-agreed b bare p t hn hx hp h =
     let size : ℕ = blockSize b in

@@ -111,7 +111,7 @@ module _ (c : Config) (w : World) (k : List ℕ) (time : ℕ) (f : WorldFits c w
       place-free k found (o .0) found-16 (o .1) (rw e)
 
   -- where no live entry of the key's has anything assembled, its call starts from nothing
-  pub none-first : ((i : ℕ) → i < 16 → holds k (entryAt w i) ≡ true → live (c .lifetime) time (entryAt w i) ≡ true → entryAt w i .state .assembled .len ≡ 0)
+  none-first : ((i : ℕ) → i < 16 → holds k (entryAt w i) ≡ true → live (c .lifetime) time (entryAt w i) ≡ true → entryAt w i .state .assembled .len ≡ 0)
       → place k found < 16 → opened k found .state .assembled .len ≡ 0
   none-first nothing p =
       let i : ℕ = place k found in

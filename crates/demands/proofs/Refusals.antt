@@ -1,16 +1,13 @@
 -- THE REFUSALS LEAVE WHAT DOCUMENT 01 SAYS. Assumes nothing.
-use Prim.Native.Nat.{ℕ, _+_, _-_, _*_, _≤_}
+use Prim.Native.Nat.{ℕ, _-_, _*_, _≤_}
 use mathlib.Core.Path.{_≡_, refl, sym, _∙_, ap}
-use mathlib.Core.Logic.{_⊎_, inl, inr, ⊎-elim}
+use mathlib.Core.Logic.{_⊎_, ⊎-elim}
 use mathlib.Core.List.{List}
 use native.Mathlib.Omega.{arith}
 use lib.ListN.{length}
-use lib.Dec.{leb, ltb}
+use lib.Dec.{leb}
 use Rattle.pieces.specs.Memory.{pieceOf}
 use Rattle.pieces.proofs.Tests.{on-test}
-use Rattle.splicing.specs.Splice.{spliceOf, splicedLength}
-use Rattle.splicing.specs.declared.Splice.{Splice}
-use Rattle.splicing.specs.declared.Splice.the-variants as splice
 use Rattle.block_value.specs.Value.{blockStart}
 use Rattle.block_value.specs.declared.BlockValue.{BlockValue}
 use Rattle.negotiation.specs.Chunk.{chunkOf}
@@ -25,19 +22,19 @@ use Rattle.block_state.specs.Step.{Left, left}
 use Rattle.block_table.specs.Table.{at}
 use Rattle.block_table.proofs.Row.{at-set-same}
 use Rattle.block_table.proofs.TableFits.{row-length}
-use Rattle.places.specs.Places.{place, opened}
+use Rattle.places.specs.Places.{place}
 use Rattle.block_handler.specs.Call.{World, Call, Done, callAt, rowOf, call}
 use Rattle.block_handler.proofs.Frame.{world-fits}
 use Rattle.demands.specs.Demand3.{entryAt}
 use Rattle.demands.specs.Touch.{Placed, touched}
 use Rattle.demands.specs.Refusals.{RefusalsLeave}
 use Rattle.demands.proofs.Pairing.{refusal-number}
-use Rattle.demands.proofs.Outcomes.{Unstored, plain, disagreed, beyond, crowded, whole, Storing, as-before, stores, storing}
+use Rattle.demands.proofs.Outcomes.{placeOf, openedOf, Unstored, plain, disagreed, beyond, crowded, whole, Storing, as-before, stores, storing}
 use Rattle.demands.proofs.Outcomes.{Why, unagreed, badly, astray, unspliced, Outcome}
 use Rattle.demands.proofs.Outcomes.{refused, past, tooLarge, continued, onwards, serves, none, took, outcome, early-or-placed}
 use Rattle.demands.proofs.Touch.{made, refused-touches, response-touches}
 
-pub never : {A : Type 0} → _≡_ {A = ℕ} 0 1 → A
+never : {A : Type 0} → _≡_ {A = ℕ} 0 1 → A
 never z = absurd (omega arith)
 
 pub same-number : (m n : ℕ) → Refused m ≡ Refused n → m ≡ n
@@ -45,16 +42,7 @@ same-number m n e = cc
 
 -- ---- the numbers
 
-abbrev SixOrSeven : ℕ → Splice → Type 0
-SixOrSeven n sp = sp ≡ splice.Refused n → (n ≡ 6) ⊎ (n ≡ 7)
-
-pub splice-number : (u l a s p n : ℕ) → SixOrSeven n (spliceOf u l a s p)
-unfolding spliceOf
-splice-number u l a s p n =
-    on-test (SixOrSeven n) (ltb 16384 (a + s - l)) (λ _ e. let z : n ≡ 6 = cc in inl z)
-    (λ _. on-test (SixOrSeven n) (ltb u (splicedLength l a s p)) (λ _ e. let z : n ≡ 7 = cc in inr z) (λ _ e. never (cc)))
-
-pub chunk-number : (b : BlockValue) (m n : ℕ) → chunkOf b m ≡ chunk.Refused n → n ≡ 8
+chunk-number : (b : BlockValue) (m n : ℕ) → chunkOf b m ≡ chunk.Refused n → n ≡ 8
 unfolding chunkOf
 chunk-number b m n =
     on-test (λ (ch : Chunk). ch ≡ chunk.Refused n → n ≡ 8) (leb m (blockStart b)) (λ _ e. cc) (λ _ e. never (cc))
@@ -74,13 +62,13 @@ module _ (c : Config) (home away : ℕ) (s : BlockState) (u : List ℕ) (r : Req
   of-refusal P why over g (serves t v _ _ _ x y from to k l held asks is h) e = never (cc)
 
 -- a step that leaves everything is refused with 4 to 10, and not with 8
-pub why-number : (c : Config) (home away : ℕ) (s : BlockState) (u : List ℕ) (r : Request) (n : ℕ) → Why c home away s u r n → (4 ≤ n) × (n ≤ 10) × (n ≡ 8 → ⊥)
+why-number : (c : Config) (home away : ℕ) (s : BlockState) (u : List ℕ) (r : Request) (n : ℕ) → Why c home away s u r n → (4 ≤ n) × (n ≤ 10) × (n ≡ 8 → ⊥)
 why-number c home away s u r n (unagreed m e) =
     ⊎-elim (λ (z : m ≡ 4). (omega arith, omega arith, λ y. omega arith)) (λ (z : m ≡ 5). (omega arith, omega arith, λ y. omega arith)) (refusal-number _ _ _ _ m e)
 why-number c home away s u r n (badly b reply given e y) = (omega arith, omega arith, λ y. omega arith)
 why-number c home away s u r n (astray b reply given e f y) = (omega arith, omega arith, λ y. omega arith)
-why-number c home away s u r n (unspliced b m e) =
-    ⊎-elim (λ (z : m ≡ 6). (omega arith, omega arith, λ y. omega arith)) (λ (z : m ≡ 7). (omega arith, omega arith, λ y. omega arith)) (splice-number _ _ _ _ _ m e)
+why-number c home away s u r n (unspliced m e) =
+    ⊎-elim (λ (z : m ≡ 6). (omega arith, omega arith, λ y. omega arith)) (λ (z : m ≡ 7). (omega arith, omega arith, λ y. omega arith)) e
 
 abbrev Late : ℕ → Left → Type 0
 Late n g = g .answer ≡ Refused n → (4 ≤ n) × (n ≤ 10)
@@ -120,15 +108,15 @@ response-same c s d r n g (stores t y from to k same cached room) e = never (cc)
 
 module _ (c : Config) (w : World) (q : Call) where
   abbrev i : ℕ
-  i = place (q .key) (rowOf c w q)
+  i = placeOf c w q
 
   abbrev s : BlockState
-  s = opened (q .key) (rowOf c w q) .state
+  s = openedOf c w q .state
 
   abbrev u : List ℕ
   u = pieceOf (c .upload) i (w .upload)
 
-  step-number : (x : What) (n : ℕ) → callAt c w (q .time) (rowOf c w q) i (opened (q .key) (rowOf c w q)) x .answer ≡ Refused n → (4 ≤ n) × (n ≤ 10)
+  step-number : (x : What) (n : ℕ) → callAt c w (q .time) (rowOf c w q) i (openedOf c w q) x .answer ≡ Refused n → (4 ≤ n) × (n ≤ 10)
   unfolding callAt
   step-number (request r) n = request-number c (i * c .upload) (i * c .response) s u r _ (outcome c (i * c .upload) (i * c .response) s u r) n
   step-number (response r) n = response-number c s (pieceOf (c .response) i (w .response)) r _ (storing c s (pieceOf (c .response) i (w .response)) r) n

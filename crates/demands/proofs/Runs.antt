@@ -14,12 +14,12 @@ use Rattle.keys.proofs.Keys.{same-refl}
 use Rattle.entries.specs.Entries.{free}
 use Rattle.block_table.specs.Table.{freshTable}
 use Rattle.block_table.proofs.TableFits as fits
-use Rattle.places.specs.Places.{place, opened}
 use Rattle.judge.specs.Limits.{memoriesOk}
 use Rattle.block_handler.specs.Call.{World, Call, callAt, rowOf, call}
 use Rattle.block_handler.proofs.Frame.{WorldFits, call-fits, call-cases}
 use Rattle.demands.specs.Demand3.{Handler, run, after, callsOn, seenOn, Sent, callOn, All, AllBytes, Rising, Fresh, entryAt}
 use Rattle.demands.specs.Clocks.{asks, requestsOn, runOn, OwnRising}
+use Rattle.demands.proofs.Outcomes.{placeOf, openedOf}
 
 -- ---- calls cut in two
 
@@ -139,7 +139,7 @@ unfolding callAt
 clock-under c w q end h b =
     call-cases (λ d. d .world .table .clock ≤ end) c w q (λ n. h) (λ named ok later p. placed (q .what))
   where
-    placed : (y : What) → callAt c w (q .time) (rowOf c w q) (place (q .key) (rowOf c w q)) (opened (q .key) (rowOf c w q)) y .world .table .clock ≤ end
+    placed : (y : What) → callAt c w (q .time) (rowOf c w q) (placeOf c w q) (openedOf c w q) y .world .table .clock ≤ end
     placed (request r) = b
     placed (response r) = b
 

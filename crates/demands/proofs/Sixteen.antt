@@ -22,12 +22,13 @@ use Rattle.entries.proofs.Entries.{holds-own}
 use Rattle.block_table.specs.Table.{at}
 use Rattle.block_table.proofs.Row.{Unique, at-sweep, at-set}
 use Rattle.block_table.proofs.TableFits.{row, row-length, row-unique}
-use Rattle.places.specs.Places.{place, opened}
+use Rattle.places.specs.Places.{place}
 use Rattle.places.proofs.Places.{place-most, place-new, place-unheld, opened-key}
 use Rattle.block_handler.specs.Call.{World, Call, Done, callAt, rowOf, call}
 use Rattle.block_handler.proofs.Frame.{WorldFits, call-fits, call-cases}
 use Rattle.demands.specs.Demand3.{after, AllBytes, entryAt}
 use Rattle.demands.specs.Crossing.{among, AllAmong}
+use Rattle.demands.proofs.Outcomes.{placeOf, openedOf}
 
 -- ---- a list of keys without one
 
@@ -66,8 +67,8 @@ pigeon f (suc n) keys h one =
 -- ---- what holds of every entry
 
 -- a call leaves each entry as it was, frees it, or puts one in use for its own key
-pub call-entries : (P : Entry → Type 0) (c : Config) (w : World) (q : Call) → WorldFits c w → P free
-    → ((s : BlockState) → P (inUse (opened (q .key) (rowOf c w q) .key) (q .time) s)) → ((i : ℕ) → i < 16 → P (entryAt w i))
+call-entries : (P : Entry → Type 0) (c : Config) (w : World) (q : Call) → WorldFits c w → P free
+    → ((s : BlockState) → P (inUse (openedOf c w q .key) (q .time) s)) → ((i : ℕ) → i < 16 → P (entryAt w i))
     → (i : ℕ) → i < 16 → P (entryAt (call c w q .world) i)
 unfolding callAt swept
 call-entries P c w q f none new old =
@@ -80,12 +81,12 @@ call-entries P c w q f none new old =
     each : (i : ℕ) → i < 16 → P (at (rowOf c w q) i)
     each i b = rw (at-sweep (c .lifetime) (q .time) (w .table .entries) i) (on-test P (live (c .lifetime) (q .time) (entryAt w i)) (λ _. old i b) (λ _. none))
 
-    placed : place (q .key) (rowOf c w q) < 16 → (y : What) → (i : ℕ) → i < 16
-        → P (entryAt (callAt c w (q .time) (rowOf c w q) (place (q .key) (rowOf c w q)) (opened (q .key) (rowOf c w q)) y .world) i)
+    placed : placeOf c w q < 16 → (y : What) → (i : ℕ) → i < 16
+        → P (entryAt (callAt c w (q .time) (rowOf c w q) (placeOf c w q) (openedOf c w q) y .world) i)
     placed p (request r) i b =
-        at-set (rowOf c w q) (place (q .key) (rowOf c w q)) _ (omega (arith, long)) (λ j e. P e) (new _) (λ j h ne. each j (omega (arith, long))) i (omega (arith, long))
+        at-set (rowOf c w q) (placeOf c w q) _ (omega (arith, long)) (λ j e. P e) (new _) (λ j h ne. each j (omega (arith, long))) i (omega (arith, long))
     placed p (response r) i b =
-        at-set (rowOf c w q) (place (q .key) (rowOf c w q)) _ (omega (arith, long)) (λ j e. P e) (new _) (λ j h ne. each j (omega (arith, long))) i (omega (arith, long))
+        at-set (rowOf c w q) (placeOf c w q) _ (omega (arith, long)) (λ j e. P e) (new _) (λ j h ne. each j (omega (arith, long))) i (omega (arith, long))
 
 -- ---- the keys in use are among these
 

@@ -1,7 +1,7 @@
 -- What a step comes to, a law for each branch that the proofs need, and what the mode decides in it. Here and in Outcomes.antt alone they look into the steps. Assumes
 -- nothing.
 use Prim.Native.Nat.{ℕ}
-use mathlib.Core.Bool.{true, false, cond, _&&_}
+use mathlib.Core.Bool.{true, false, cond, false≢true, _&&_}
 use mathlib.Core.Path.{_≡_, refl, sym, _∙_, ap}
 use mathlib.Core.List.{List}
 use lib.ListN.{length}
@@ -31,6 +31,7 @@ use Rattle.request_step.proofs.Steps as steps
 use Rattle.response_step.specs.Step.{chunked, onReply, stepResponse}
 use Rattle.demands.specs.Agreed.{requestAgrees}
 use Rattle.demands.specs.Strict.{plainly}
+use Rattle.demands.proofs.Checks.{meets-all}
 
 module _ (c : Config) (home away : ℕ) (s : BlockState) (u : List ℕ) (r : Request) where
   abbrev p : ℕ
@@ -89,10 +90,10 @@ module _ (c : Config) (home away : ℕ) (s : BlockState) (u : List ℕ) (r : Req
 
   given-same : (b reply : BlockValue) → Unchecked b
       → block1Given c home away s u (requestBlock (r .block2)) (r .payload) b reply ≡ block1Given (plainly c) home away s u (requestBlock (r .block2)) (r .payload) b reply
-  unfolding lengthMet
   given-same b reply k =
+      let all : lengthMet false (s .assembled) b ≡ s .assembled .len = meets-all false (s .assembled) b (λ e. absurd (false≢true e)) in
       given-next c home away s u _ (r .payload) b reply (k .good) (k .next) (s .assembled .len) (sym (k .all))
-      ∙ sym (given-next (plainly c) home away s u _ (r .payload) b reply refl refl (s .assembled .len) refl)
+      ∙ sym (given-next (plainly c) home away s u _ (r .payload) b reply refl refl (s .assembled .len) (sym all))
 
   on-same : (block1 : MaybeBlock) (n : Negotiated) → ((b : BlockValue) → block1 ≡ Given b → Unchecked b)
       → onNegotiated c home away s u (requestBlock (r .block2)) (r .payload) block1 n

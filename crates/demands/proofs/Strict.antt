@@ -23,18 +23,17 @@ use Rattle.block_state.specs.declared.Answer.the-variants.{Refused}
 use Rattle.block_state.specs.Message.{Request, Response, request, response}
 use Rattle.block_state.specs.Step.{Left}
 use Rattle.request_step.specs.Block1.{badForm, notNext}
-use Rattle.places.specs.Places.{opened}
-use Rattle.block_handler.specs.Call.{World, Call, callAt, rowOf, call}
+use Rattle.block_handler.specs.Call.{World, Call, callAt, call}
 use Rattle.demands.specs.Agreed.{requestAgrees}
 use Rattle.demands.specs.Touch.{RefusesTo}
 use Rattle.demands.specs.Strict.{tookBlock, assembledFor, RightlyTaken, BadlyFormed, Misplaced, PassesFive, plainly, Fine, StrictSaysNo}
 use Rattle.demands.proofs.Checks.{and-none, bad-is, bad-as, bad-not, not-bad, passed-next, misplaced-is, misplaced-as, meets-all}
 use Rattle.demands.proofs.Step.{step-bad, step-astray, Unchecked, step-plainly, response-plainly}
 use Rattle.demands.proofs.Computes.{limits}
-use Rattle.demands.proofs.Outcomes.{TookBlock, Why, unagreed, badly, astray, unspliced, Outcome, refused, past, tooLarge, continued, onwards, serves, none, took, answered}
+use Rattle.demands.proofs.Outcomes.{openedOf, TookBlock, Why, unagreed, badly, astray, unspliced, Outcome, refused, past, tooLarge, continued, onwards, serves, none, took, answered}
 use Rattle.demands.proofs.Touch.{refused-touches}
 use Rattle.demands.proofs.Pairing.{refusal-number}
-use Rattle.demands.proofs.Refusals.{same-number, splice-number, of-refusal}
+use Rattle.demands.proofs.Refusals.{same-number, of-refusal}
 
 -- ---- what the two tests say
 
@@ -123,7 +122,7 @@ module _ (c : Config) (w : World) (q : Call) (r : Request) (asks : q .what ≡ r
     why-ten n (unagreed m e) z = absurd (⊎-elim (λ (y : m ≡ 4). omega arith) (λ (y : m ≡ 5). omega arith) (refusal-number _ _ _ _ m e))
     why-ten n (badly b reply given e y) z = (and-left _ _ y, b, given, bad-as b (length (r .payload)) (and-right (c .strict) _ y))
     why-ten n (astray b reply given e f y) z = absurd (omega arith)
-    why-ten n (unspliced b m e) z = absurd (⊎-elim (λ (y : m ≡ 6). omega arith) (λ (y : m ≡ 7). omega arith) (splice-number _ _ _ _ _ m e))
+    why-ten n (unspliced m e) z = absurd (⊎-elim (λ (y : m ≡ 6). omega arith) (λ (y : m ≡ 7). omega arith) e)
 
     why-nine : (n : ℕ) → Why c home away s u r n → n ≡ 9 → Nine
     why-nine n (unagreed m e) z = absurd (⊎-elim (λ (y : m ≡ 4). omega arith) (λ (y : m ≡ 5). omega arith) (refusal-number _ _ _ _ m e))
@@ -132,7 +131,7 @@ module _ (c : Config) (w : World) (q : Call) (r : Request) (asks : q .what ≡ r
         let strict : c .strict ≡ true = and-left _ _ y in
         let well : badForm b (length (r .payload)) ≡ false = rw strict at f in
         (strict, b, given, not-bad b (length (r .payload)) well, rw its at (misplaced-as (s .assembled) b (and-right (c .strict) _ y)))
-    why-nine n (unspliced b m e) z = absurd (⊎-elim (λ (y : m ≡ 6). omega arith) (λ (y : m ≡ 7). omega arith) (splice-number _ _ _ _ _ m e))
+    why-nine n (unspliced m e) z = absurd (⊎-elim (λ (y : m ≡ 6). omega arith) (λ (y : m ≡ 7). omega arith) e)
 
     -- a step that is refused, and not with 8, has its reason
     reason : (P : Type 0) (n : ℕ) → (n ≡ 8 → ⊥) → ((m : ℕ) → Why c home away s u r m → m ≡ n → P) → (g : Left) → Outcome c home away s u r g → g .answer ≡ Refused n → P
@@ -163,11 +162,11 @@ unchecked c home away s u r b f =
 all-else : (c : Config) (w : World) (q : Call) (r : Request) → q .what ≡ request r
     → ((b : BlockValue) → requestBlock (r .block1) ≡ Given b → Fine (assembledFor c w q) (length (r .payload)) b) → call c w q ≡ call (plainly c) w q
 unfolding limits call callAt
-all-else c w q r e f = rw (e, step-plainly c _ _ (opened (q .key) (rowOf c w q) .state) _ r (λ b given. unchecked c _ _ _ _ r b (f b given)))
+all-else c w q r e f = rw (e, step-plainly c _ _ (openedOf c w q .state) _ r (λ b given. unchecked c _ _ _ _ r b (f b given)))
 
 of-responses : (c : Config) (w : World) (q : Call) (r : Response) → q .what ≡ response r → call c w q ≡ call (plainly c) w q
 unfolding limits call callAt
-of-responses c w q r e = rw (e, response-plainly c (opened (q .key) (rowOf c w q) .state) _ r)
+of-responses c w q r e = rw (e, response-plainly c (openedOf c w q .state) _ r)
 
 -- STRICT MODE SAYS NO
 pub strict-says-no : StrictSaysNo call

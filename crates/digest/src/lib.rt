@@ -6,18 +6,12 @@ ghost use lib.ListN.{take};
 ghost use lib.Dec.{eqb};
 ghost use Rattle.digest.specs.Digest.{Read, turn, stirred, stirs, digestOf, folded, times, pairs};
 
-fn wide(x: u8) -> u64
-    ensures { λ r. ⌜ (r ≡ x) × (r < 256) ⌝ }
-{
-    x as u64
-}
-
 // Two, four and eight bytes as one number. The sums become one load.
 fn pair(key: &[u8; 64], i: usize) -> u64
     requires { ⌜ i + 2 ≤ 64 ⌝ }
     ensures { λ r. ⌜ Read 2 (now (key .entry)) i r ⌝ }
 {
-    wide(key[i]) + wide(key[i + 1]) * 256
+    wide::u64_of_u8(key[i]) + wide::u64_of_u8(key[i + 1]) * 256
 }
 
 fn half(key: &[u8; 64], i: usize) -> u64

@@ -226,6 +226,15 @@ module _ (before : ℕ) (bytes : List ℕ) where
   unfolding optionsIn
   options-bad e = ap (onNext bytes (λ number rest. optionsIn (length bytes) number rest)) e
 
+-- so the others, and that the list begins with it
+pub first-tells : (before : ℕ) (bytes : List ℕ) (number from to : ℕ) (list : List CoapOption) (left : List ℕ)
+    → nextIn before bytes ≡ Option number from to
+    → optionsOf before bytes ≡ options list left
+    → (more : List CoapOption) × (optionsOf number (drop to bytes) ≡ options more left) × (list ≡ record { number = number; value = take (to - from) (drop from bytes) } ∷ more)
+first-tells before bytes number from to list left p e =
+    let steps = sym (options-more before bytes number from to p) ∙ e in
+    with-tells number (take (to - from) (drop from bytes)) (optionsOf number (drop to bytes)) list left steps
+
 -- ---- where the options end
 
 -- what the code lends of the rest is all of it

@@ -13,7 +13,7 @@ use Rattle.message.specs.Format.{CoapOption, Message, Bytes, optionsByte
 use Rattle.message.specs.Reader.{packetOf, withoutPayload, counted, nextAt, foundFrom, value, nthOf, valueAt}
 use Rattle.message.specs.declared.Next.{Next}
 use Rattle.message.specs.declared.Next.the-variants.{Option, End, Malformed}
-use Rattle.message.proofs.Laws.{next-bounds, options-more, options-end, options-bad, options-left, no-options, end-no-option, with-tells, found-none, found-on, found-here}
+use Rattle.message.proofs.Laws.{next-bounds, options-end, options-bad, options-left, no-options, end-no-option, with-tells, first-tells, found-none, found-on, found-here}
 use Rattle.message.proofs.Messages.{head-tells, meaning-tells}
 use Rattle.message.proofs.WriteBack.{write-back}
 
@@ -138,15 +138,6 @@ value-shown bytes at from to h k l =
     sym (within-there bytes (at + from) (at + to) (omega arith) (omega (arith, length-drop at bytes))) ∙ rw (span, drop-drop from at bytes)
 
 -- ---- the options, one by one
-
--- Options that begin with one are that one, and those of the rest.
-first-tells : (before : ℕ) (bytes : List ℕ) (number from to : ℕ) (list : List CoapOption) (left : List ℕ)
-    → nextIn before bytes ≡ Option number from to
-    → optionsOf before bytes ≡ options list left
-    → (more : List CoapOption) × (optionsOf number (drop to bytes) ≡ options more left) × (list ≡ record { number = number; value = take (to - from) (drop from bytes) } ∷ more)
-first-tells before bytes number from to list left p e =
-    let steps = sym (options-more before bytes number from to p) ∙ e in
-    with-tells number (take (to - from) (drop from bytes)) (optionsOf number (drop to bytes)) list left steps
 
 -- What is next, where options are left: the first of them, with its value, and the others after it.
 pub record NextIs (bytes : List ℕ) (at before : ℕ) (o : CoapOption) (list : List CoapOption) (left : List ℕ) : Type 0 where

@@ -11,8 +11,8 @@ use Rattle.message.specs.Format.{CoapOption, options, nextIn, optionsOf}
 use Rattle.message.specs.Reader.{counted, nextAt}
 use Rattle.message.specs.declared.Next.{Next}
 use Rattle.message.specs.declared.Next.the-variants.{Option, End, Malformed}
-use Rattle.message.proofs.Laws.{with-tells, no-options, options-more, options-end, options-bad, at-bounds}
-use Rattle.message_fields.specs.Fields.{optionText}
+use Rattle.message.proofs.Laws.{no-options, first-tells, options-end, options-bad, at-bounds}
+use Rattle.message_text.specs.Fields.{optionText}
 use Rattle.message_text.specs.Text.{moreText, optionsText}
 
 -- ---- what stands at an index
@@ -49,8 +49,7 @@ module _ (bytes : List ℕ) (at before : ℕ) where
         → (more : List CoapOption) × (optionsOf number (drop to bytes) ≡ options more left) × (list ≡ record { number = number; value = take (to - from) (drop from bytes) } ∷ more)
     option-first number from to e =
         let s = stands at (nextIn before (drop at bytes)) number from to e in
-        let value : List ℕ = take (s .end - s .start) (drop (s .start) (drop at bytes)) in
-        let w = with-tells number value (optionsOf number (drop (s .end) (drop at bytes))) list left (sym (options-more before (drop at bytes) number (s .start) (s .end) (s .is)) ∙ are) in
+        let w = first-tells before (drop at bytes) number (s .start) (s .end) list left (s .is) are in
         let after : drop (s .end) (drop at bytes) ≡ drop to bytes = drop-drop (s .end) at bytes ∙ ap (λ (n : ℕ). drop n bytes) (sym (s .to-is)) in
         let inside : drop (s .start) (drop at bytes) ≡ drop from bytes = drop-drop (s .start) at bytes ∙ ap (λ (n : ℕ). drop n bytes) (sym (s .from-is)) in
         let long : s .end - s .start ≡ to - from = omega (arith, s .from-is, s .to-is) in
@@ -74,7 +73,8 @@ pub record Walked (out₀ : List ℕ) (start : ℕ) (bytes : List ℕ) (list : L
   pub text : done ++ moreText rest ≡ moreText list
   pub are : optionsOf before (drop at bytes) ≡ options rest left
 
-pub walked-start : (out : List ℕ) (start : ℕ) (bytes : List ℕ) (list : List CoapOption) (left : List ℕ) (first before : ℕ) → start ≤ length out → optionsOf before (drop first bytes) ≡ options list left
+pub walked-start : (out : List ℕ) (start : ℕ) (bytes : List ℕ) (list : List CoapOption) (left : List ℕ) (first before : ℕ) → start ≤ length out
+    → optionsOf before (drop first bytes) ≡ options list left
     → Walked out start bytes list left out start first before
 walked-start out start bytes list left first before h e = record { done = []; rest = list; written = put-none out start h; text = refl; are = e }
 

@@ -1,16 +1,18 @@
 -- The text of a line, by what its hex is. Assumes nothing.
 use mathlib.Core.Path.{_≡_, refl, ap}
-use mathlib.Core.Bool.{Bool, true, false, cond}
+use mathlib.Core.Bool.{Bool, true, false, cond, _&&_}
 use mathlib.Core.List.{List, [], _∷_}
 use Prim.Native.Nat.{ℕ, _-_, _*_, _≤_, _<_}
 use native.Mathlib.Omega.{arith}
+use lib.Dec.{leb}
 use lib.ListN.{length, take}
-use borrow.Author.Tests.{le-leb, lt-leb}
+use borrow.Author.Tests.{le-leb, lt-leb, leb-true}
+use Rattle.pieces.proofs.Tests.{and-left}
 use Rattle.message.specs.Format.{meaningOf}
-use Rattle.script_fields.specs.Fields.{isPairs, pairsOf, pairsDecoded}
+use Rattle.script_fields.specs.Fields.{isPairs, pairsOf, pairsDecoded, Filled}
 use Rattle.script_fields.specs.declared.Decoded.the-variants as decoded
-use Rattle.message_fields.specs.Fields.{unreadableText}
-use Rattle.message_text.specs.Text.{meaningText, lineText}
+use Rattle.message_text.specs.Fields.{unreadableText}
+use Rattle.message_text.specs.Text.{meaningText, lineDecoded, lineText}
 
 -- two digits a byte
 pub pairs-length : (text : List ℕ) → 2 * length (pairsOf text) ≤ length text
@@ -19,27 +21,42 @@ pairs-length [] = omega arith
 pairs-length (x ∷ []) = omega arith
 pairs-length (x ∷ y ∷ rest) = omega (arith, pairs-length rest)
 
-module _ (number : ℕ) (line : List ℕ) where
-  pub long-line : 131070 < length line → unreadableText number ≡ lineText number line
-  unfolding lineText
-  long-line h = rw (lt-leb (length line) 131070 h)
+module _ (line : List ℕ) where
+  pub line-long : 131070 < length line → decoded.Bad ≡ lineDecoded line
+  unfolding lineDecoded
+  line-long h = rw (lt-leb (length line) 131070 h)
 
-  module _ (h : length line ≤ 131070) where
-    pub bad-line : pairsDecoded line ≡ decoded.Bad → unreadableText number ≡ lineText number line
-    unfolding lineText pairsDecoded
-    bad-line e = go (isPairs line) refl e
-      where
-        go : (b : Bool) → isPairs line ≡ b → cond b (decoded.Bytes (length (pairsOf line))) decoded.Bad ≡ decoded.Bad → unreadableText number ≡ lineText number line
-        go true p q = absurd (let z : _≡_ {A = ℕ} 0 1 = cc in omega arith)
-        go false p q = rw (le-leb (length line) 131070 h, p)
+  pub line-short : length line ≤ 131070 → pairsDecoded line ≡ lineDecoded line
+  unfolding lineDecoded pairsDecoded
+  line-short h = rw (le-leb (length line) 131070 h)
 
-    pub good-line : (n : ℕ) → pairsDecoded line ≡ decoded.Bytes n → (n ≡ length (pairsOf line)) × (meaningText number (meaningOf (pairsOf line)) ≡ lineText number line)
-    unfolding lineText pairsDecoded
-    good-line n e = go (isPairs line) refl e
+  -- what is told of the text of a line by its bytes
+  pub record Good (number n : ℕ) : Type 0 where
+    pub count : n ≡ length (pairsOf line)
+    pub short : length line ≤ 131070
+    pub text : meaningText number (meaningOf (pairsOf line)) ≡ lineText number line
+
+  module _ (number : ℕ) where
+    pub bad-line : lineDecoded line ≡ decoded.Bad → unreadableText number ≡ lineText number line
+    unfolding lineText lineDecoded
+    bad-line e = go (leb (length line) 131070 && isPairs line) e
       where
-        go : (b : Bool) → isPairs line ≡ b → cond b (decoded.Bytes (length (pairsOf line))) decoded.Bad ≡ decoded.Bytes n → (n ≡ length (pairsOf line)) × (meaningText number (meaningOf (pairsOf line)) ≡ lineText number line)
-        go true p q = ((cc), rw (le-leb (length line) 131070 h, p))
+        go : (b : Bool) → cond b (decoded.Bytes (length (pairsOf line))) decoded.Bad ≡ decoded.Bad
+            → unreadableText number ≡ cond b (meaningText number (meaningOf (pairsOf line))) (unreadableText number)
+        go true q = absurd (let z : _≡_ {A = ℕ} 0 1 = cc in omega arith)
+        go false q = refl
+
+    pub good-line : (n : ℕ) → lineDecoded line ≡ decoded.Bytes n → Good number n
+    unfolding lineText lineDecoded
+    good-line n e = go (leb (length line) 131070 && isPairs line) refl e
+      where
+        go : (b : Bool) → (leb (length line) 131070 && isPairs line) ≡ b → cond b (decoded.Bytes (length (pairsOf line))) decoded.Bad ≡ decoded.Bytes n → Good number n
+        go true p q = record { count = (cc); short = leb-true (length line) 131070 (and-left _ _ p); text = rw p }
         go false p q = absurd (let z : _≡_ {A = ℕ} 0 1 = cc in omega arith)
+
+-- no bytes are told of a line that has none
+pub bad-fills : (bytes out : List ℕ) → Filled decoded.Bad bytes out
+bad-fills bytes out n e = absurd (let z : _≡_ {A = ℕ} 0 1 = cc in omega arith)
 
 -- a part that is lent from the start
 pub lent-first : (n : ℕ) (bytes : List ℕ) → take (n - 0) bytes ≡ take n bytes

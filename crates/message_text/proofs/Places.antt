@@ -1,6 +1,6 @@
 -- What the reader's answer tells of the bytes, and the line that they make. Assumes nothing.
 use mathlib.Core.Path.{_≡_, refl, sym, ap, _∙_}
-use mathlib.Core.List.{List, [], _∷_, _++_}
+use mathlib.Core.List.{List, [], _∷_, _++_, append-assoc}
 use Prim.Native.Nat.{ℕ, _+_, _≤_}
 use native.Mathlib.Omega.{arith}
 use lib.ListN.{length, drop}
@@ -10,8 +10,9 @@ use Rattle.message.specs.Reader.{packetOf, readingOf, readOf}
 use Rattle.message.specs.declared.Packet.{Packet}
 use Rattle.message.specs.declared.Reading.the-variants as reading
 use Rattle.message.proofs.Shown.{parts, options-shown, token-shown, payload-shown}
-use Rattle.message_fields.specs.Fields.{headText, refusedText}
-use Rattle.message_text.specs.Text.{partsText, messageText, meaningText}
+use Rattle.script_text.specs.Text.{shown}
+use Rattle.message_text.specs.Fields.{headText, refusedText}
+use Rattle.message_text.specs.Text.{optionsText, partsText, messageText, meaningText}
 
 marker-length : (payload : List ℕ) → length payload ≤ length (payloadBytes payload)
 unfolding payloadBytes
@@ -57,6 +58,11 @@ refused-tells bytes code e = go (meaningOf bytes) refl e
     go (means m) p q = absurd (let z : _≡_ {A = ℕ} 0 1 = cc in omega arith)
 
 -- ---- the line of a message
+
+-- what is put: each part with the byte behind it
+pub parts-are : (m : Message) → (shown (m .token) ++ (32 ∷ [])) ++ (optionsText (m .options) ++ (32 ∷ shown (m .payload) ++ (10 ∷ []))) ≡ partsText m
+unfolding partsText
+parts-are m = append-assoc (shown (m .token)) (32 ∷ []) (optionsText (m .options) ++ (32 ∷ shown (m .payload) ++ (10 ∷ [])))
 
 pub refused-line : (number : ℕ) (bytes : List ℕ) (code : ℕ) → readOf bytes ≡ reading.Refused code → refusedText number ≡ meaningText number (meaningOf bytes)
 refused-line number bytes code e = ap (meaningText number) (sym (refused-tells bytes code e))

@@ -7,7 +7,9 @@ use lib.ListN.{length}
 use Rattle.message.specs.Format.{CoapOption, Message, Meaning, malformed, means, meaningOf}
 use Rattle.script_text.specs.Text.{shown}
 use Rattle.script_fields.specs.Fields.{isPairs, pairsOf}
-use Rattle.message_fields.specs.Fields.{headText, optionText, refusedText, unreadableText}
+use Rattle.script_fields.specs.declared.Decoded.{Decoded}
+use Rattle.script_fields.specs.declared.Decoded.the-variants as decoded
+use Rattle.message_text.specs.Fields.{headText, optionText, refusedText, unreadableText}
 
 -- Options, each behind a comma.
 unfoldable pub moreText : List CoapOption → List ℕ
@@ -30,6 +32,10 @@ messageText number m = headText number (m .messageType) (m .code) (m .messageId)
 abbrev pub meaningText : ℕ → Meaning → List ℕ
 meaningText number malformed = refusedText number
 meaningText number (means m) = messageText number m
+
+-- The bytes of a line: hex digits in pairs, lower case, of 65,535 bytes at most.
+unfoldable pub lineDecoded : List ℕ → Decoded
+lineDecoded line = cond (leb (length line) 131070 && isPairs line) (decoded.Bytes (length (pairsOf line))) decoded.Bad
 
 -- A line is hex digits in pairs, lower case, of 65,535 bytes at most; an empty one is a message of no bytes.
 unfoldable pub lineText : ℕ → List ℕ → List ℕ

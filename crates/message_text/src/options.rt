@@ -12,7 +12,8 @@ ghost use Rattle.message_text.specs.Text.{moreText, optionsText};
 fn put_more(out: &mut [u8], start: usize, message: &[u8], first: usize, before: u16) -> usize
     requires { ⌜ first ≤ length (now message) ⌝ }
     requires { ⌜ start + 8 * (length (now message) - first) + 20 ≤ length (now out) ⌝ }
-    ensures { λ r. ⌜ ((list : List CoapOption) (left : List ℕ) → optionsOf before (drop first (now (message .entry))) ≡ options list left → Put (now (out .entry)) start (moreText list) (now (out .exit)) r × (r + 8 * length left ≤ start + 8 * (length (now (message .entry)) - first))) ⌝ }
+    ensures { λ r. ⌜ ((list : List CoapOption) (left : List ℕ) → optionsOf before (drop first (now (message .entry))) ≡ options list left
+        → Put (now (out .entry)) start (moreText list) (now (out .exit)) r × (r + 8 * length left ≤ start + 8 * (length (now (message .entry)) - first))) ⌝ }
 {
     let mut k = start;
     let mut at = first;
@@ -21,7 +22,7 @@ fn put_more(out: &mut [u8], start: usize, message: &[u8], first: usize, before: 
         match message::next_option(message, at, last) {
             Next::Option { number, from, to } => {
                 let comma = pieces::put_byte(out, k, b',');
-                k = message_fields::put_option(out, comma, number, &message[from..to]);
+                k = crate::fields::put_option(out, comma, number, &message[from..to]);
                 at = to;
                 last = number;
             }
@@ -35,11 +36,12 @@ fn put_more(out: &mut [u8], start: usize, message: &[u8], first: usize, before: 
 pub fn put_options(out: &mut [u8], start: usize, message: &[u8], first: usize) -> usize
     requires { ⌜ first ≤ length (now message) ⌝ }
     requires { ⌜ start + 8 * (length (now message) - first) + 21 ≤ length (now out) ⌝ }
-    ensures { λ r. ⌜ ((list : List CoapOption) (left : List ℕ) → optionsOf 0 (drop first (now (message .entry))) ≡ options list left → Put (now (out .entry)) start (optionsText list) (now (out .exit)) r × (r + 8 * length left ≤ start + 8 * (length (now (message .entry)) - first) + 1)) ⌝ }
+    ensures { λ r. ⌜ ((list : List CoapOption) (left : List ℕ) → optionsOf 0 (drop first (now (message .entry))) ≡ options list left
+        → Put (now (out .entry)) start (optionsText list) (now (out .exit)) r × (r + 8 * length left ≤ start + 8 * (length (now (message .entry)) - first) + 1)) ⌝ }
 {
     match message::next_option(message, first, 0) {
         Next::Option { number, from, to } => {
-            let k = message_fields::put_option(out, start, number, &message[from..to]);
+            let k = crate::fields::put_option(out, start, number, &message[from..to]);
             put_more(out, k, message, to, number)
         }
         Next::End => pieces::put_byte(out, start, b'-'),

@@ -20,10 +20,8 @@ pub fn put_parts(out: &mut [u8], at: usize, message: &[u8], packet: Packet) -> u
     let options = packet.options;
     let first = options.from;
     let payload = packet.payload;
-    let k = script_text::put_shown(out, at, message::part_of(message, token));
-    let k = pieces::put_byte(out, k, b' ');
+    let k = crate::fields::put_closed(out, at, message::part_of(message, token), b' ');
     let k = crate::options::put_options(out, k, message, first);
     let k = pieces::put_byte(out, k, b' ');
-    let k = script_text::put_shown(out, k, message::part_of(message, payload));
-    pieces::put_byte(out, k, b'\n')
+    crate::fields::put_closed(out, k, message::part_of(message, payload), b'\n')
 }

@@ -11,6 +11,7 @@ use lib.Seq.{drop-cons, drop-drop, length-take-le}
 use borrow.Author.Tests.{leb-true, eqb-true, le-leb, eq-eqb}
 use Rattle.message.specs.Format.{optionsBytes, optionsOk}
 use Rattle.message_writer.specs.Writer.{optionsFrom, total, describes, optionLength, optionFits, roomAfterOption, optionsFit, roomAfter}
+use Rattle.message_writer.specs.declared.Room.{Room}
 use Rattle.message_writer.specs.declared.Room.the-variants.{Left, Small}
 use Rattle.pieces.proofs.Tests.{and-left, and-right, refute, same-test}
 
@@ -208,14 +209,16 @@ module _ {room : ℕ} {numbers lengths values : List ℕ} {left before at i : �
         let f = drop-next lengths i len (omega (arith, m .counts)) q in
         (λ j. roomAfter before left (sym e j) (sym f j) (drop at values)) ∙ m .same
 
-    pub measured-small : roomAfterOption left before number len (length values - at) ≡ Small → Small ≡ roomAfter 0 room numbers lengths values
-    measured-small e =
-        sym (room-small before left number len (drop (i + 1) numbers) (drop (i + 1) lengths) (drop at values) (rw length-drop e)) ∙ next
+    pub measured-small : {r : Room} → r ≡ roomAfterOption left before number len (length values - at) → r ≡ Small → Small ≡ roomAfter 0 room numbers lengths values
+    measured-small is e =
+        sym (room-small before left number len (drop (i + 1) numbers) (drop (i + 1) lengths) (drop at values) (rw length-drop (sym is ∙ e))) ∙ next
 
-    pub measured-next : (after : ℕ) → roomAfterOption left before number len (length values - at) ≡ Left after
+    pub measured-next : {r : Room} → r ≡ roomAfterOption left before number len (length values - at) → (after : ℕ) → r ≡ Left after
         → Measured room numbers lengths values after number (at + len) (i + 1)
-    measured-next after e =
-        let f = fits-option left before number len (length values - at) (left-test (optionFits left before number len (length values - at)) (left - optionLength (number - before) len) after e .0) in
+    measured-next is after e′ =
+        let e = sym is ∙ e′ in
+        let t = left-test (optionFits left before number len (length values - at)) (left - optionLength (number - before) len) after e in
+        let f = fits-option left before number len (length values - at) (t .0) in
         record {
           counts = m .counts;
           within = omega arith;

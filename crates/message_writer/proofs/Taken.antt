@@ -12,6 +12,7 @@ use Rattle.pieces.proofs.Puts.{put-as}
 use Rattle.message.specs.Format.{bytesOf, headBytes, optionsBytes, payloadBytes, optionsOk, emptyOk, encodable}
 use Rattle.message_writer.specs.Writer.{Given, Writes, optionsFrom, describes, messageOf, takes, roomAfter, optionsFit, opening}
 use Rattle.message_writer.specs.declared.Writing.the-variants.{Written, Refused}
+use Rattle.message_writer.specs.declared.Room.{Room}
 use Rattle.message_writer.specs.declared.Room.the-variants.{Left, Small}
 use Rattle.pieces.proofs.Tests.{and-left, and-right, refute, same-test}
 use Rattle.message_writer.proofs.Measures.{described, describes-by, all-fit, fit-all, left-test, small-test}
@@ -102,17 +103,17 @@ module _ (room : ℕ) (g : Given) (h : 4 + length (g .token) ≤ room) where
       let d = described (g .numbers) (g .lengths) (g .values) (t .described) in
       all-fit (g .numbers) (g .lengths) (g .values) 0 Left-over (record { counts = d .0; sum = d .1; ok = t .ok; small = omega (arith, t .small) })
 
-  pub options-small : roomAfter 0 Left-over (g .numbers) (g .lengths) (g .values) ≡ Small → false ≡ takes room g
-  options-small e =
-      not-taken room g (λ t. small-test (optionsFit 0 Left-over (g .numbers) (g .lengths) (g .values)) (Left-over - length (optionsOf g)) e (options-fit t))
+  pub options-small : {r : Room} → r ≡ roomAfter 0 Left-over (g .numbers) (g .lengths) (g .values) → r ≡ Small → false ≡ takes room g
+  options-small is e =
+      not-taken room g (λ t. small-test (optionsFit 0 Left-over (g .numbers) (g .lengths) (g .values)) (Left-over - length (optionsOf g)) (sym is ∙ e) (options-fit t))
 
-  pub options-left : (left : ℕ) → roomAfter 0 Left-over (g .numbers) (g .lengths) (g .values) ≡ Left left
+  pub options-left : {r : Room} → r ≡ roomAfter 0 Left-over (g .numbers) (g .lengths) (g .values) → (left : ℕ) → r ≡ Left left
       → g .messageType ≤ 3 → g .code ≤ 255 → g .messageId ≤ 65535 → length (g .token) ≤ 8
       → cond (eqb (g .code) 0) (eqb (length (g .token) + length (g .numbers) + length (g .payload)) 0) true ≡ true
       → leb (length (payloadBytes (g .payload))) left ≡ takes room g
-  options-left left e kind code id token empty =
+  options-left is left e kind code id token empty =
       let n : ℕ = length (payloadBytes (g .payload)) in
-      let p = left-test (optionsFit 0 Left-over (g .numbers) (g .lengths) (g .values)) (Left-over - length (optionsOf g)) left e in
+      let p = left-test (optionsFit 0 Left-over (g .numbers) (g .lengths) (g .values)) (Left-over - length (optionsOf g)) left (sym is ∙ e) in
       let f = fit-all (g .numbers) (g .lengths) (g .values) 0 Left-over (p .0) in
       let d = describes-by (g .numbers) (g .lengths) (g .values) (f .counts) (f .sum) in
       same-test (leb n left) (takes room g)
@@ -142,5 +143,5 @@ module _ (out : List ℕ) (g : Given) where
       let n : r ≡ length (bytesOf (messageOf g)) = omega (arith, q .to) in
       record { answer = rw t (ap Written n); output = rw t (q .is) }
 
-  pub writes-refused : takes (length out) g ≡ false → Writes out g out (Refused 21)
-  writes-refused t = record { answer = rw t refl; output = rw t refl }
+  pub writes-refused : {b : Bool} → b ≡ takes (length out) g → b ≡ false → Writes out g out (Refused 21)
+  writes-refused is e = let t = sym is ∙ e in record { answer = rw t refl; output = rw t refl }

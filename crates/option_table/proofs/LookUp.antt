@@ -9,7 +9,8 @@ use Rattle.option_table.specs.Options.{Row, limited, lookUp, numbers, le
 use Rattle.option_table.specs.declared.Length.the-variants.{Unknown}
 
 -- at the first row that has the number
-pub found : (rows : List Row) (n len i : ℕ) → i < length rows → ((k : ℕ) → k < i → getD (numbers rows) k 0 < n) → getD (numbers rows) i 0 ≡ n → lookUp rows n len ≡ limited (getD (leasts rows) i 0) (getD (mosts rows) i 0) len
+pub found : (rows : List Row) (n len i : ℕ) → i < length rows → ((k : ℕ) → k < i → getD (numbers rows) k 0 < n) → getD (numbers rows) i 0 ≡ n
+    → lookUp rows n len ≡ limited (getD (leasts rows) i 0) (getD (mosts rows) i 0) len
 unfolding lookUp
 found [] n len i h before here = absurd (omega arith)
 found (r ∷ rows) n len zero h before here = simp (eq-eqb (r .number) n here)

@@ -107,4 +107,6 @@ move-up-reads m from to n mem i h f u k =
 pub move-down-reads : (m : List ℕ) (from to n : ℕ) (mem : List ℕ) (i : ℕ)
     → from ≤ to → to + n ≤ length m → Down m to (part m from n) n mem i → 0 < i → getD mem (from + (i - 1)) 0 ≡ getD (part m from n) (i - 1) 0
 move-down-reads m from to n mem i h f u k =
-    ap (λ (x : List ℕ). getD x (from + (i - 1)) 0) (u .2) ∙ before-patch m (to + i) (drop i (part m from n)) (from + (i - 1)) (omega arith) (omega arith) ∙ sym (getD-part m from n (i - 1) (omega arith))
+    ap (λ (x : List ℕ). getD x (from + (i - 1)) 0) (u .2)
+    ∙ before-patch m (to + i) (drop i (part m from n)) (from + (i - 1)) (omega arith) (omega arith)
+    ∙ sym (getD-part m from n (i - 1) (omega arith))

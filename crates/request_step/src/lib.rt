@@ -107,12 +107,8 @@ pub fn step_request(
 {
     let block1 = asked.block1;
     let block2 = asked.block2;
-    match negotiation::negotiate_block_size_if_necessary(
-        config,
-        block1,
-        asked.bare,
-        payload.len(),
-    ) {
+    let p = payload.len();
+    match negotiation::negotiate_block_size_if_necessary(config, block1, asked.bare, p) {
         Negotiated::Refused(n) => state::refused(state, n),
         Negotiated::NoBlock => block2::maybe_handle_request_block2(
             away,

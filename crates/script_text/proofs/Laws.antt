@@ -11,10 +11,12 @@ use lib.ListN.{length, getD, set, take, length-append}
 use lib.Seq.{take-suc, take-all}
 use borrow.Author.Tests.{lt-ltb, le-ltb}
 use Rattle.pieces.specs.Memory.{Put}
-use Rattle.pieces.proofs.Puts.{put-length, put-none, put-one, put-then}
+use Rattle.pieces.proofs.Puts.{put-as, put-bound, put-length, put-none, put-one, put-then}
 use Rattle.block_value.specs.Value.{blockSize}
 use Rattle.block_value.specs.declared.BlockValue.{BlockValue}
-use Rattle.script_text.specs.Text.{decimalFrom, decimal, hexDigit, hex, shown, digitOf, blockText}
+use Rattle.negotiation.specs.declared.MaybeBlock.{MaybeBlock}
+use Rattle.negotiation.specs.declared.MaybeBlock.the-variants.{Absent, Given}
+use Rattle.script_text.specs.Text.{decimalFrom, decimal, hexDigit, hex, shown, digitOf, blockText, maybeText}
 
 -- ---- decimals
 
@@ -128,3 +130,14 @@ block-length b = rw (length-append (decimal (b .num)) (47 ∷ digitOf (b .more) 
 pub block-written : (b : BlockValue) (d s : ℕ) → d ≡ digitOf (b .more) → s ≡ blockSize b → decimal (b .num) ++ (47 ∷ d ∷ 47 ∷ decimal s) ≡ blockText b
 unfolding blockText
 block-written b d s e f = rw (e, f)
+
+pub maybe-length : (b : MaybeBlock) → length (maybeText b) ≤ 50
+maybe-length Absent = omega arith
+maybe-length (Given b) = omega (arith, block-length b)
+
+-- ---- what is written, once it is known what of
+
+-- where a is known to be x, the text of x that was put is the text of a, and reaches no further than its length
+pub written : {A : Type 0} {m : List ℕ} {at : ℕ} {b m′ : List ℕ} {r : ℕ} {a x : A} (text : A → List ℕ) (n : ℕ) → ((y : A) → length (text y) ≤ n)
+    → Put m at b m′ r → a ≡ x → b ≡ text x → Put m at (text a) m′ r × (r ≤ at + n)
+written {a = a} text n short p e h = let q = put-as p (h ∙ sym (ap text e)) in (q, put-bound n q (short a))

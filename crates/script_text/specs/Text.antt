@@ -5,6 +5,8 @@ use mathlib.Core.List.{List, [], _∷_, _++_}
 use lib.Dec.{ltb}
 use Rattle.block_value.specs.Value.{blockSize}
 use Rattle.block_value.specs.declared.BlockValue.{BlockValue}
+use Rattle.negotiation.specs.declared.MaybeBlock.{MaybeBlock}
+use Rattle.negotiation.specs.declared.MaybeBlock.the-variants.{Absent, Given}
 
 -- The decimal digits of n, at most as many as the first number says.
 unfoldable pub decimalFrom : ℕ → ℕ → List ℕ
@@ -36,3 +38,7 @@ blockText b = decimal (b .num) ++ (47 ∷ digitOf (b .more) ∷ 47 ∷ decimal (
 
 abbrev pub none : List ℕ
 none = 45 ∷ []
+
+abbrev pub maybeText : MaybeBlock → List ℕ
+maybeText Absent = none
+maybeText (Given b) = blockText b

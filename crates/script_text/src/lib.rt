@@ -1,10 +1,11 @@
 // Text put into a lent buffer at an index; each answers the next index.
 use block_value::BlockValue;
+use negotiation::MaybeBlock;
 ghost use mathlib.Core.Path.{_≡_};
 ghost use Prim.Native.Nat.{_+_, _*_, _%_, _<_, _≤_};
 ghost use lib.ListN.{length};
 ghost use Rattle.pieces.specs.Memory.{Put};
-ghost use Rattle.script_text.specs.Text.{decimal, hexDigit, hex, shown, blockText, digitOf};
+ghost use Rattle.script_text.specs.Text.{decimal, hexDigit, hex, shown, blockText, maybeText, digitOf};
 
 fn last_digit(n: u64) -> u8
     ensures { λ r. ⌜ r ≡ 48 + n % 10 ⌝ }
@@ -81,4 +82,16 @@ pub fn put_block(out: &mut [u8], at: usize, block: BlockValue) -> usize
     let k = pieces::put_byte(out, k, digit_of(block.more));
     let k = pieces::put_byte(out, k, b'/');
     put_decimal(out, k, block_value::size(block) as u64)
+}
+
+// A block value, or a dash.
+pub fn put_maybe(out: &mut [u8], at: usize, block: MaybeBlock) -> usize
+    requires { ⌜ at + 50 ≤ length (now out) ⌝ }
+    ensures { λ r. ⌜ Put (now (out .entry)) at (maybeText block) (now (out .exit)) r ⌝ }
+    ensures { λ r. ⌜ r ≤ at + 50 ⌝ }
+{
+    match block {
+        MaybeBlock::Given(b) => put_block(out, at, b),
+        MaybeBlock::Absent => pieces::put_byte(out, at, b'-'),
+    }
 }

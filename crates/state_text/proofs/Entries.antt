@@ -59,7 +59,8 @@ module _ {m : Bytes} {at : ℕ} {es : List Entry} {m′ : Bytes} {k i : ℕ} (s 
       go [] = le-ltb at (at + 0) (omega arith)
       go (x ∷ d) = lt-ltb at (at + length (x ∷ d)) (omega arith) ∙ sym (lt-ltb 0 (length (x ∷ d)) (omega arith))
 
-  pub shown-turn : (d : Entry) {n : ℕ} {m″ : Bytes} {r : ℕ} → i < length es → n ≡ i → Put m′ k (nextText (ltb at k) n (getD es i d)) m″ r → r ≤ k + 401 → Shown m at es m″ r (i + 1)
+  pub shown-turn : (d : Entry) {n : ℕ} {m″ : Bytes} {r : ℕ} → i < length es → n ≡ i → Put m′ k (nextText (ltb at k) n (getD es i d)) m″ r → r ≤ k + 401
+      → Shown m at es m″ r (i + 1)
   unfolding nextText usedTexts
   shown-turn d h e p w =
       let entry : Entry = getD es i d in

@@ -3,30 +3,35 @@ use Prim.Native.Nat.{ℕ, _+_}
 use mathlib.Core.Bool.{Bool, cond}
 use mathlib.Core.List.{List, [], _∷_, _++_}
 use Rattle.script.specs.Line.{Bytes}
-use Rattle.script_text.specs.Text.{decimal, hex, blockText, none}
+use Rattle.script_text.specs.Text.{decimal, hex, maybeText, none}
 use Rattle.block_state.specs.declared.Assembled.{Assembled}
 use Rattle.block_state.specs.declared.Cached.{Cached}
 use Rattle.block_state.specs.declared.Recorded.{Recorded}
 use Rattle.block_state.specs.declared.BlockState.{BlockState}
+use Rattle.block_state.specs.State.{recordedBlock}
 use Rattle.keys.specs.Keys.{keyOf}
 use Rattle.keys.specs.declared.Key.{Key}
 use Rattle.entries.specs.declared.Entry.{Entry}
 use Rattle.block_table.specs.declared.Table.{Table}
-use Rattle.memory_text.specs.Memory.{memoriesText}
+use Rattle.state_text.specs.Memory.{memoriesText}
 
 -- ---- an entry: INDEX,KEY,TOUCHED,ASSEMBLED,KEPT,CACHE,RECORDED
 
+-- Two numbers, and a byte between them.
+unfoldable pub pairText : ℕ → ℕ → ℕ → Bytes
+pairText first between second = decimal first ++ (between ∷ decimal second)
+
 -- ASSEMBLED,KEPT: a length, and the exponent that is kept (not a size).
-unfoldable pub assembledText : Assembled → Bytes
-assembledText a = decimal (a .len) ++ (44 ∷ decimal (a .exponent))
+abbrev pub assembledText : Assembled → Bytes
+assembledText a = pairText (a .len) 44 (a .exponent)
 
 -- CACHE: a dash, or HEAD+PAYLOAD.
 unfoldable pub cachedText : Cached → Bytes
-cachedText c = cond (c .held) (decimal (c .head) ++ (43 ∷ decimal (c .payload))) none
+cachedText c = cond (c .held) (pairText (c .head) 43 (c .payload)) none
 
 -- RECORDED: a dash, or num/more/size.
-unfoldable pub recordedText : Recorded → Bytes
-recordedText r = cond (r .given) (blockText (record { num = r .num; more = r .more; «size_exponent» = r .exponent })) none
+abbrev pub recordedText : Recorded → Bytes
+recordedText r = maybeText (recordedBlock r)
 
 -- INDEX,KEY,TOUCHED
 unfoldable pub whoText : ℕ → Key → ℕ → Bytes

@@ -1,31 +1,19 @@
 // The state on one line: clock, entries in use, and the numbers of the memories.
-use block_state::Assembled;
 use block_state::BlockState;
 use block_state::Cached;
-use block_state::Recorded;
+use block_state::state;
 use block_table::Table;
-use block_value::BlockValue;
 use entries::Entry;
 use keys::Key;
-ghost use mathlib.Core.Path.{_≡_};
+
+mod memory;
+
 ghost use Prim.Native.Nat.{_+_, _≤_};
 ghost use lib.ListN.{length, take};
 ghost use lib.Dec.{ltb};
 ghost use Rattle.pieces.specs.Memory.{Put};
 ghost use Rattle.script_text.specs.Text.{hex};
-ghost use Rattle.state_text.specs.State.{assembledText, cachedText, recordedText, whoText, whatText, entryText, nextText, entriesText, stateText};
-
-fn size(x: u8) -> usize
-    ensures { λ r. ⌜ r ≡ x ⌝ }
-{
-    x as usize
-}
-
-fn wide_index(i: usize) -> u64
-    ensures { λ r. ⌜ r ≡ i ⌝ }
-{
-    i as u64
-}
+ghost use Rattle.state_text.specs.State.{pairText, cachedText, whoText, whatText, entryText, nextText, entriesText, stateText};
 
 fn put_key(out: &mut [u8], at: usize, bytes: [u8; 64], n: usize) -> usize
     requires { ⌜ at + 128 ≤ length (now out) ⌝ }
@@ -38,43 +26,25 @@ fn put_key(out: &mut [u8], at: usize, bytes: [u8; 64], n: usize) -> usize
     script_text::put_hex(out, at, &bytes)
 }
 
-fn put_assembled(out: &mut [u8], at: usize, assembled: Assembled) -> usize
-    requires { ⌜ at + 50 ≤ length (now out) ⌝ }
-    ensures { λ r. ⌜ Put (now (out .entry)) at (assembledText assembled) (now (out .exit)) r ⌝ }
-    ensures { λ r. ⌜ r ≤ at + 50 ⌝ }
+fn put_pair(out: &mut [u8], at: usize, first: u64, between: u8, second: u64) -> usize
+    requires { ⌜ at + 41 ≤ length (now out) ⌝ }
+    ensures { λ r. ⌜ Put (now (out .entry)) at (pairText first between second) (now (out .exit)) r ⌝ }
+    ensures { λ r. ⌜ r ≤ at + 41 ⌝ }
 {
-    let k = script_text::put_decimal(out, at, assembled.len as u64);
-    let k = pieces::put_byte(out, k, b',');
-    script_text::put_decimal(out, k, assembled.exponent as u64)
+    let k = script_text::put_decimal(out, at, first);
+    let k = pieces::put_byte(out, k, between);
+    script_text::put_decimal(out, k, second)
 }
 
 fn put_cached(out: &mut [u8], at: usize, cached: Cached) -> usize
-    requires { ⌜ at + 50 ≤ length (now out) ⌝ }
+    requires { ⌜ at + 41 ≤ length (now out) ⌝ }
     ensures { λ r. ⌜ Put (now (out .entry)) at (cachedText cached) (now (out .exit)) r ⌝ }
-    ensures { λ r. ⌜ r ≤ at + 50 ⌝ }
+    ensures { λ r. ⌜ r ≤ at + 41 ⌝ }
 {
     if !cached.held {
         return pieces::put_byte(out, at, b'-');
     }
-    let k = script_text::put_decimal(out, at, cached.head as u64);
-    let k = pieces::put_byte(out, k, b'+');
-    script_text::put_decimal(out, k, cached.payload as u64)
-}
-
-fn put_recorded(out: &mut [u8], at: usize, recorded: Recorded) -> usize
-    requires { ⌜ at + 50 ≤ length (now out) ⌝ }
-    ensures { λ r. ⌜ Put (now (out .entry)) at (recordedText recorded) (now (out .exit)) r ⌝ }
-    ensures { λ r. ⌜ r ≤ at + 50 ⌝ }
-{
-    if !recorded.given {
-        return pieces::put_byte(out, at, b'-');
-    }
-    let block = BlockValue {
-        num: recorded.num,
-        more: recorded.more,
-        size_exponent: recorded.exponent,
-    };
-    script_text::put_block(out, at, block)
+    put_pair(out, at, cached.head as u64, b'+', cached.payload as u64)
 }
 
 // INDEX,KEY,TOUCHED
@@ -86,7 +56,7 @@ fn put_who(out: &mut [u8], at: usize, i: u64, key: Key, touched: u64) -> usize
     let bytes = key.bytes;
     let k = script_text::put_decimal(out, at, i);
     let k = pieces::put_byte(out, k, b',');
-    let k = put_key(out, k, bytes, size(key.len));
+    let k = put_key(out, k, bytes, wide::usize_of_u8(key.len));
     let k = pieces::put_byte(out, k, b',');
     script_text::put_decimal(out, k, touched)
 }
@@ -100,11 +70,17 @@ fn put_what(out: &mut [u8], at: usize, state: BlockState) -> usize
     let assembled = state.assembled;
     let cached = state.cached;
     let recorded = state.recorded;
-    let k = put_assembled(out, at, assembled);
+    let k = put_pair(
+        out,
+        at,
+        assembled.len as u64,
+        b',',
+        assembled.exponent as u64,
+    );
     let k = pieces::put_byte(out, k, b',');
     let k = put_cached(out, k, cached);
     let k = pieces::put_byte(out, k, b',');
-    put_recorded(out, k, recorded)
+    script_text::put_maybe(out, k, state::recorded_block(recorded))
 }
 
 fn put_entry(out: &mut [u8], at: usize, i: u64, e: Entry) -> usize
@@ -144,7 +120,7 @@ fn put_entries(out: &mut [u8], at: usize, entries: [Entry; 16]) -> usize
     let mut i: usize = 0;
     while i < 16 {
         let e = entries[i];
-        k = put_next(out, at, k, wide_index(i), e);
+        k = put_next(out, at, k, wide::u64_of_usize(i), e);
         i += 1;
     }
     if k == at {
@@ -173,5 +149,5 @@ pub fn put_state<'a>(
     let k = pieces::put_byte(out, k, b' ');
     let k = put_entries(out, k, entries);
     let k = pieces::put_byte(out, k, b' ');
-    memory_text::put_memories(out, k, upload, response)
+    memory::put_memories(out, k, upload, response)
 }

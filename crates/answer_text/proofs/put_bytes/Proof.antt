@@ -14,9 +14,4 @@ pub put-bytes-spec : {M : Type 1} → statement M
 put-bytes-spec =
     tie.close
     (tie.spec
-    (λ c κs. search needs)
-    (λ c. search needs)
-    nothing
-    (λ c κs. search needs)
-    (λ c. search needs)
-    shown)
+    (λ c κs. search needs) (λ c. search needs) nothing (λ c κs. search needs) (λ c. search needs) shown)

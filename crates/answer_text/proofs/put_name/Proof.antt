@@ -1,15 +1,28 @@
 use Prim.Native.Nat.{ℕ, _+_, _≤_}
 use mathlib.Core.Path.{_≡_, refl, ap}
 use mathlib.Core.List.{List}
+use native.Mathlib.Omega.{arith}
+use lib.ListN.{length}
 use Rattle.pieces.specs.Memory.{Put}
 use Rattle.pieces.proofs.Puts.{put-then}
 use Rattle.block_state.specs.declared.Kind.{Kind}
-use Rattle.block_state.specs.declared.Kind.the-variants.{Refused}
+use Rattle.block_state.specs.declared.Kind.the-variants.{Continue, TooLarge, Handed, Pass, Served, Plain, Whole, First, Refused}
 use Rattle.answer_text.specs.Answer.{nameText}
-use Rattle.answer_text.proofs.Texts.{written, name-length}
+use Rattle.script_text.proofs.Laws.{written, decimal-length}
 use borrow.Author.Needs.{needs}
 use Rattle.answer_text.proofs.put_name.Statement.{statement}
 use Rattle.answer_text.proofs.put_name.Tie as tie
+
+name-length : (k : Kind) (n : ℕ) → length (nameText k n) ≤ 28
+name-length Continue n = omega arith
+name-length TooLarge n = omega arith
+name-length Handed n = omega arith
+name-length Pass n = omega arith
+name-length Served n = omega arith
+name-length Plain n = omega arith
+name-length Whole n = omega arith
+name-length First n = omega arith
+name-length Refused n = omega (arith, decimal-length n)
 
 named : {m : List ℕ} {at : ℕ} {b m′ : List ℕ} {r : ℕ} (n : ℕ) {a k : Kind} → Put m at b m′ r → a ≡ k → b ≡ nameText k n → Put m at (nameText a n) m′ r × (r ≤ at + 28)
 named n = written (λ k. nameText k n) 28 (λ k. name-length k n)
@@ -49,50 +62,10 @@ pub put-name-spec : {M : Type 1} → statement M
 put-name-spec =
     tie.close
     (tie.spec
-    (λ c. search needs)
-    (λ c. search needs)
-    (λ c κs. search needs)
-    (λ c. search needs)
-    (λ c. search needs)
-    (λ c κs. search needs)
-    (λ c. search needs)
-    (λ c. search needs)
-    (λ c κs. search needs)
-    (λ c. search needs)
-    (λ c. search needs)
-    (λ c κs. search needs)
-    (λ c. search needs)
-    (λ c. search needs)
-    (λ c κs. search needs)
-    (λ c. search needs)
-    (λ c. search needs)
-    (λ c κs. search needs)
-    (λ c. search needs)
-    (λ c. search needs)
-    (λ c κs. search needs)
-    (λ c. search needs)
-    (λ c. search needs)
-    (λ c κs. search needs)
-    (λ c. search needs)
-    (λ c. search needs)
-    (λ c κs. search needs)
-    (λ c κs. search needs)
-    (λ c κs. search needs)
-    (λ c. search needs)
-    continue
-    (λ c. search needs)
-    too-large
-    (λ c. search needs)
-    handed
-    (λ c. search needs)
-    pass
-    (λ c. search needs)
-    served
-    (λ c. search needs)
-    plain
-    (λ c. search needs)
-    whole
-    (λ c. search needs)
-    first
-    (λ c. search needs)
-    refused)
+    (λ c. search needs) (λ c. search needs) (λ c κs. search needs) (λ c. search needs) (λ c. search needs) (λ c κs. search needs) (λ c. search needs)
+    (λ c. search needs) (λ c κs. search needs) (λ c. search needs) (λ c. search needs) (λ c κs. search needs) (λ c. search needs) (λ c. search needs)
+    (λ c κs. search needs) (λ c. search needs) (λ c. search needs) (λ c κs. search needs) (λ c. search needs) (λ c. search needs)
+    (λ c κs. search needs) (λ c. search needs) (λ c. search needs) (λ c κs. search needs) (λ c. search needs) (λ c. search needs)
+    (λ c κs. search needs) (λ c κs. search needs) (λ c κs. search needs) (λ c. search needs) continue (λ c. search needs) too-large
+    (λ c. search needs) handed (λ c. search needs) pass (λ c. search needs) served (λ c. search needs) plain (λ c. search needs) whole
+    (λ c. search needs) first (λ c. search needs) refused)

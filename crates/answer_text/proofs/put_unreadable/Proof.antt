@@ -1,26 +1,18 @@
+use native.Mathlib.Omega.{arith}
 use Rattle.pieces.proofs.Puts.{put-then}
 use Rattle.answer_text.specs.Answer.{unreadableText}
-use native.Mathlib.Omega.{arith}
 use borrow.Author.Needs.{needs}
 use Rattle.answer_text.proofs.put_unreadable.Statement.{statement}
 use Rattle.answer_text.proofs.put_unreadable.Tie as tie
 
-put-decimal-requires : tie.Need-put-decimal-requires
-put-decimal-requires c κs = search needs
-
-slice-aggregate-put : tie.Need-slice-aggregate-put
-slice-aggregate-put c = search needs
-
-put-requires : tie.Need-put-requires
-put-requires c κs = search needs
-
-same-length : tie.Need-same-length
-same-length c = search needs
-
 returns : tie.Need-returns
 unfolding unreadableText
-returns c = ((put-then (c .before .before .before .before .before .before .before .put-decimal .ensures .0) (c .before .before .put .ensures)), omega (arith, c .before .before .before .before .before .before .before .put-decimal .ensures .1, c .before .before .put .ensures .to))
+returns c =
+    let rest = c .before .before in
+    let number = rest .before .before .before .before .before in
+    (put-then (number .put-decimal .ensures .0) (rest .put .ensures), omega (arith, number .put-decimal .ensures .1, rest .put .ensures .to))
 
 pub put-unreadable-spec : {M : Type 1} → statement M
 put-unreadable-spec =
-    tie.close (tie.spec put-decimal-requires slice-aggregate-put put-requires same-length returns)
+    tie.close
+    (tie.spec (λ c κs. search needs) (λ c. search needs) (λ c κs. search needs) (λ c. search needs) returns)

@@ -37,10 +37,4 @@ pub shown-by-spec : {M : Type 1} → statement M
 shown-by-spec =
     tie.close
     (tie.spec
-    passed
-    (λ c κs. search needs)
-    handed
-    (λ c κs. search needs)
-    served
-    (λ c κs. search needs)
-    of-its-own)
+    passed (λ c κs. search needs) handed (λ c κs. search needs) served (λ c κs. search needs) of-its-own)

@@ -15,34 +15,31 @@ abbrev μ-loop : tie.MeasureT-loop
 μ-loop number text bytes₀ out₀ count₀ from₀ end₀ bytes out count from end = length text - from
 
 loop-holds : tie.Need-loop-holds Inv-loop μ-loop
-loop-holds c = (refl, refl, going-start (c .before .before .before .before .args .number) (c .before .before .before .before .args .text .now) _ (omega (arith, c .before .before .before .before .fits .number)) (c .mark-from .ensures))
+loop-holds c =
+    let start = c .before .before .before .before in
+    (refl, refl, going-start (start .args .number) (start .args .text .now) _ (omega (arith, start .fits .number)) (c .mark-from .ensures))
 
-sub-print-line : tie.Need-sub-print-line Inv-loop μ-loop
-sub-print-line c = omega (arith, c .before .before .loop .inv .2 .up-to .after)
-
-part-print-line-start : tie.Need-part-print-line-start Inv-loop μ-loop
-part-print-line-start c = omega (arith, c .before .before .loop .inv .2 .up-to .after, c .before .before .loop .inv .2 .up-to .within)
-
-part-print-line-end : tie.Need-part-print-line-end Inv-loop μ-loop
-part-print-line-end c = omega (arith, c .before .before .loop .inv .2 .up-to .after, c .before .before .loop .inv .2 .up-to .within)
-
-print-line-requires : tie.Need-print-line-requires Inv-loop μ-loop
-print-line-requires c κs = (omega (arith, c .before .before .before .before .before .before .before .before .before .before .pre .0, c .before .before .before .before .before .loop .inv .0), omega (arith, c .before .before .before .before .before .before .before .before .before .before .pre .1, c .before .before .before .before .before .loop .inv .1))
-
-add-from : tie.Need-add-from Inv-loop μ-loop
-add-from c = omega (arith, c .before .before .before .before .before .before .before .before .before .loop-test .taken)
-
-mark-from-requires-2 : tie.Need-mark-from-requires-2 Inv-loop μ-loop
-mark-from-requires-2 c κs = omega (arith, c .before .before .before .before .before .before .before .before .before .loop-test .taken)
+line-fits : tie.Need-print-line-requires Inv-loop μ-loop
+line-fits c κs =
+    let at-loop = c .before .before .before .before .before in
+    let start = at-loop .before .before .before .before .before in
+    (omega (arith, start .pre .0, at-loop .loop .inv .0), omega (arith, start .pre .1, at-loop .loop .inv .1))
 
 loop-less : tie.Need-loop-less Inv-loop μ-loop
-loop-less c = omega (arith, c .before .before .before .before .before .before .before .before .before .before .before .loop .inv .2 .up-to .after, c .before .before .before .before .before .before .before .before .before .before .loop-test .taken)
+loop-less c =
+    let in-loop = c .before .before .before .before .before .before .before .before .before .before in
+    omega (arith, in-loop .before .loop .inv .2 .up-to .after, in-loop .loop-test .taken)
 
 loop-again : tie.Need-loop-again Inv-loop μ-loop
-loop-again c = (omega (arith, c .before .before .before .before .before .print-line .kept, c .before .before .before .before .before .before .before .before .before .before .before .loop .inv .0), omega (arith, c .before .before .before .before .before .print-line .kept, c .before .before .before .before .before .before .before .before .before .before .before .loop .inv .1), going-on (c .before .before .before .before .before .before .before .before .before .before .before .loop .inv .2) (c .before .before .before .before .before .before .before .before .before .before .loop-test .taken) _ _ (c .before .before .before .before .before .before .before .before .before .wrapping-add-u64 .ensures) (c .mark-from2 .ensures))
-
-returns : tie.Need-returns Inv-loop μ-loop
-returns c = going-done (c .before .loop .inv .2) (c .loop-test .left)
+loop-again c =
+    let printed = c .before .before .before .before .before in
+    let counted = printed .before .before .before .before in
+    let in-loop = counted .before in
+    let inv = in-loop .before .loop .inv in (
+      omega (arith, printed .print-line .kept, inv .0),
+      omega (arith, printed .print-line .kept, inv .1),
+      going-on (inv .2) (in-loop .loop-test .taken) _ _ (counted .wrapping-add-u64 .ensures) (c .mark-from2 .ensures),
+    )
 
 pub print-lines-spec : {M : Type 1} → statement M
 print-lines-spec =
@@ -53,14 +50,14 @@ print-lines-spec =
     (λ c κs. search needs)
     loop-holds
     (λ c κs. search needs)
-    sub-print-line
-    part-print-line-start
-    part-print-line-end
-    print-line-requires
-    add-from
-    mark-from-requires-2
+    (λ c. let line = c .before .before .loop .inv .2 .up-to in omega arith)
+    (λ c. let line = c .before .before .loop .inv .2 .up-to in omega arith)
+    (λ c. let line = c .before .before .loop .inv .2 .up-to in omega arith)
+    line-fits
+    (λ c. search needs)
+    (λ c κs. search needs)
     loop-less
     loop-again
     (λ c. search needs)
     (λ c. search needs)
-    returns)
+    (λ c. going-done (c .before .loop .inv .2) (c .loop-test .left)))

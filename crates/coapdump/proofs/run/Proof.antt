@@ -14,42 +14,80 @@ abbrev μ-loop : tie.MeasureT-loop
 μ-loop text₀ bytes₀ out₀ number₀ held₀ end₀ turns₀ text bytes out number held end turns = turns
 
 loop-holds : tie.Need-loop-holds Inv-loop μ-loop
-loop-holds c = (refl, refl, refl, omega arith, omega (arith, c .before .before .before .read-on .ensures .0 .1, c .before .before .before .read-on .kept))
+loop-holds c =
+    let read = c .before .before .before .read-on in
+    (refl, refl, refl, omega arith, omega (arith, read .ensures .0 .1, read .kept))
 
-print-lines-requires : tie.Need-print-lines-requires Inv-loop μ-loop
-print-lines-requires c κs = (omega (arith, c .before .before .before .before .before .before .before .before .before .before .before .before .before .before .before .before .pre .1, c .before .before .before .before .before .loop .inv), omega (arith, c .before .before .before .before .before .before .before .before .before .before .before .before .before .before .before .before .pre .1, c .before .before .before .before .before .loop .inv))
+lines-fit : tie.Need-print-lines-requires Inv-loop μ-loop
+lines-fit c κs =
+    let at-loop = c .before .before .before .before .before in
+    let pre = at-loop .before .before .before .before .before .before .before .before .before .before .before .pre in
+    (omega (arith, pre .1, at-loop .loop .inv), omega (arith, pre .1, at-loop .loop .inv))
 
-keep-requires : tie.Need-keep-requires Inv-loop μ-loop
-keep-requires c κs =
-    let f = simp (length-take, length-drop) at (c .before .before .before .before .before .print-lines .ensures .within) in
-    (omega (arith, f), c .before .before .before .before .before .before .before .before .before .before .before .loop .inv .4)
+rest-there : tie.Need-keep-requires Inv-loop μ-loop
+rest-there c κs =
+    let printed = c .before .before .before .before .before in
+    let at-loop = printed .before .before .before .before .before .before in
+    let f = simp (length-take, length-drop) at (printed .print-lines .ensures .within) in
+    (omega (arith, f), at-loop .loop .inv .4)
 
-read-on-requires-2 : tie.Need-read-on-requires-2 Inv-loop μ-loop
-read-on-requires-2 c κs = omega (arith, c .before .before .before .keep .ensures .0, c .before .before .before .keep .kept, c .before .before .before .before .before .before .before .before .before .before .before .before .before .before .before .before .before .before .before .before .before .before .before .before .before .before .pre .0, c .before .before .before .before .before .before .before .before .before .before .before .before .before .before .before .loop .inv .0, c .before .before .before .before .before .before .before .before .before .before .before .before .before .before .before .before .before .before .before .read-on .kept)
+room-left : tie.Need-read-on-requires-2 Inv-loop μ-loop
+room-left c κs =
+    let kept = c .before .before .before in
+    let at-loop = kept .before .before .before .before .before .before .before .before .before .before .before .before in
+    let read = at-loop .before .before .before .before in
+    let pre = read .before .before .before .before .before .before .before .pre in
+    omega (arith, kept .keep .ensures .0, kept .keep .kept, pre .0, at-loop .loop .inv .0, read .read-on .kept)
 
-turns-left-requires-2 : tie.Need-turns-left-requires-2 Inv-loop μ-loop
-turns-left-requires-2 c κs = c .before .before .before .before .before .before .before .before .before .before .before .before .before .before .before .before .before .loop-test .taken
-
-loop-less : tie.Need-loop-less Inv-loop μ-loop
-loop-less c = c .turns-left2 .ensures .1
+turns-there : tie.Need-turns-left-requires-2 Inv-loop μ-loop
+turns-there c κs =
+    let read = c .before .before .before in
+    let in-loop = read .before .before .before .before .before .before .before .before .before .before .before .before .before .before in
+    in-loop .loop-test .taken
 
 loop-again : tie.Need-loop-again Inv-loop μ-loop
-loop-again c = (omega (arith, c .before .before .before .before .before .before .before .keep .kept, c .before .before .before .read-on2 .kept, c .before .before .before .before .before .before .before .before .before .before .before .before .before .before .before .before .before .before .before .loop .inv .0), omega (arith, c .before .before .before .before .before .before .before .before .before .before .before .before .before .print-lines .kept, c .before .before .before .before .before .before .before .before .before .before .before .before .before .before .before .before .before .before .before .loop .inv .1), omega (arith, c .before .before .before .before .before .before .before .before .before .before .before .before .before .print-lines .kept, c .before .before .before .before .before .before .before .before .before .before .before .before .before .before .before .before .before .before .before .loop .inv .2), omega (arith, c .before .before .before .before .before .before .before .keep .ensures .0), omega (arith, c .before .before .before .read-on2 .ensures .0 .1, c .before .before .before .read-on2 .kept))
+loop-again c =
+    let read = c .before .before .before in
+    let kept = read .before .before .before .before in
+    let printed = kept .before .before .before .before .before .before in
+    let inv = printed .before .before .before .before .before .before .loop .inv in (
+      omega (arith, kept .keep .kept, read .read-on2 .kept, inv .0),
+      omega (arith, printed .print-lines .kept, inv .1),
+      omega (arith, printed .print-lines .kept, inv .2),
+      omega (arith, kept .keep .ensures .0),
+      omega (arith, read .read-on2 .ensures .0 .1, read .read-on2 .kept),
+    )
 
-part-print-last-end : tie.Need-part-print-last-end Inv-loop μ-loop
-part-print-last-end c = omega (arith, c .before .before .before .before .before .before .before .before .before .before .before .before .before .pre .0, c .before .before .loop .inv .0, c .before .before .loop .inv .3, c .before .before .before .before .before .before .read-on .kept)
+held-there : tie.Need-part-print-last-end Inv-loop μ-loop
+held-there c =
+    let at-loop = c .before .before in
+    let read = at-loop .before .before .before .before in
+    let pre = read .before .before .before .before .before .before .before .pre in
+    omega (arith, pre .0, at-loop .loop .inv .0, at-loop .loop .inv .3, read .read-on .kept)
 
-print-last-requires : tie.Need-print-last-requires Inv-loop μ-loop
-print-last-requires c κs = (omega (arith, c .before .before .before .before .before .before .before .before .before .before .before .before .before .before .before .before .pre .1, c .before .before .before .before .before .loop .inv), omega (arith, c .before .before .before .before .before .before .before .before .before .before .before .before .before .before .before .before .pre .1, c .before .before .before .before .before .loop .inv))
+last-fits : tie.Need-print-last-requires Inv-loop μ-loop
+last-fits c κs =
+    let at-loop = c .before .before .before .before .before in
+    let pre = at-loop .before .before .before .before .before .before .before .before .before .before .before .pre in
+    (omega (arith, pre .1, at-loop .loop .inv), omega (arith, pre .1, at-loop .loop .inv))
 
-same-length : tie.Need-same-length Inv-loop μ-loop
-same-length c = omega (arith, c .before .before .before .before .before .before .before .before .before .before .loop .inv .0, c .before .before .before .before .before .before .before .before .before .before .before .before .before .before .read-on .kept)
+same-text : tie.Need-same-length Inv-loop μ-loop
+same-text c =
+    let at-loop = c .before .before .before .before .before .before .before .before .before .before in
+    let read = at-loop .before .before .before .before in
+    omega (arith, at-loop .loop .inv .0, read .read-on .kept)
 
-same-length-2 : tie.Need-same-length-2 Inv-loop μ-loop
-same-length-2 c = omega (arith, c .before .before .before .before .print-last .kept, c .before .before .before .before .before .before .before .before .before .before .loop .inv .1)
+same-bytes : tie.Need-same-length-2 Inv-loop μ-loop
+same-bytes c =
+    let printed = c .before .before .before .before in
+    let at-loop = printed .before .before .before .before .before .before in
+    omega (arith, printed .print-last .kept, at-loop .loop .inv .1)
 
-same-length-3 : tie.Need-same-length-3 Inv-loop μ-loop
-same-length-3 c = omega (arith, c .before .before .before .before .print-last .kept, c .before .before .before .before .before .before .before .before .before .before .loop .inv .2)
+same-out : tie.Need-same-length-3 Inv-loop μ-loop
+same-out c =
+    let printed = c .before .before .before .before in
+    let at-loop = printed .before .before .before .before .before .before in
+    omega (arith, printed .print-last .kept, at-loop .loop .inv .2)
 
 pub run-spec : {M : Type 1} → statement M
 run-spec =
@@ -65,17 +103,17 @@ run-spec =
     (λ c. search needs)
     (λ c. search needs)
     (λ c. search needs)
-    print-lines-requires
-    keep-requires
-    read-on-requires-2
-    turns-left-requires-2
-    loop-less
+    lines-fit
+    rest-there
+    room-left
+    turns-there
+    (λ c. c .turns-left2 .ensures .1)
     loop-again
     (λ c. search needs)
     (λ c. search needs)
-    part-print-last-end
-    print-last-requires
-    same-length
-    same-length-2
-    same-length-3
+    held-there
+    last-fits
+    same-text
+    same-bytes
+    same-out
     (λ c. search needs))

@@ -19,13 +19,29 @@ loop-holds c = (search needs, (search needs, (search needs, omega arith)))
 
 loop-again : tie.Need-loop-again Inv-loop μ-loop
 loop-again c =
-    let l = c .before .before in
-    (search needs, (search needs, (search needs, pairs-go (l .before .args .t1) (l .before .args .t1) (l .loop .i) (l .loop .n) _ _ (search needs) (c .count .ensures .0) (l .loop .inv .1 .1 .1))))
+    let at-loop = c .before .before in
+    let row = at-loop .before .args .t1 in
+    let l = at-loop .loop in
+    (search needs, (search needs, (search needs, pairs-go row row (l .i) (l .n) _ _ (search needs) (c .count .ensures .0) (l .inv .1 .1 .1))))
 
 returns : tie.Need-returns Inv-loop μ-loop
 returns c =
-    let l = c .before in
-    rw (sym (pairs-end (l .before .args .t1) (l .before .args .t1) (l .loop .i) (l .loop .n) _ (omega arith) (l .loop .inv .1 .1 .1)))
+    let row = c .before .before .args .t1 in
+    let l = c .before .loop in
+    rw (sym (pairs-end row row (l .i) (l .n) _ (omega arith) (l .inv .1 .1 .1)))
 
 pub apart-spec : {M : Type 1} → statement M
-apart-spec = tie.close (tie.spec Inv-loop μ-loop loop-holds (λ c. search needs) (λ c. search needs) (λ c κs. search needs) (λ c. search needs) (λ c. search needs) (λ c. search needs) loop-again returns)
+apart-spec =
+    tie.close
+    (tie.spec
+    Inv-loop
+    μ-loop
+    loop-holds
+    (λ c. search needs)
+    (λ c. search needs)
+    (λ c κs. search needs)
+    (λ c. search needs)
+    (λ c. search needs)
+    (λ c. search needs)
+    loop-again
+    returns)

@@ -19,13 +19,29 @@ loop-holds c = (search needs, (search needs, (search needs, omega arith)))
 
 loop-again : tie.Need-loop-again Inv-loop μ-loop
 loop-again c =
-    let l = c .before .before in
-    (search needs, (search needs, (search needs, times-go (l .before .args .d) (l .before .args .t2) (l .loop .i) (l .loop .n) _ _ (search needs) (c .one .ensures .0) (l .loop .inv .1 .1 .1))))
+    let at-loop = c .before .before in
+    let args = at-loop .before .args in
+    let l = at-loop .loop in
+    (search needs, (search needs, (search needs, times-go (args .d) (args .t2) (l .i) (l .n) _ _ (search needs) (c .one .ensures .0) (l .inv .1 .1 .1))))
 
 returns : tie.Need-returns Inv-loop μ-loop
 returns c =
-    let l = c .before in
-    (times-end (l .before .args .d) (l .before .args .t2) (l .loop .i) (l .loop .n) _ (omega arith) (l .loop .inv .1 .1 .1), search needs)
+    let args = c .before .before .args in
+    let l = c .before .loop in
+    (times-end (args .d) (args .t2) (l .i) (l .n) _ (omega arith) (l .inv .1 .1 .1), search needs)
 
 pub count-spec : {M : Type 1} → statement M
-count-spec = tie.close (tie.spec Inv-loop μ-loop loop-holds (λ c. search needs) (λ c. search needs) (λ c κs. search needs) (λ c. search needs) (λ c. search needs) (λ c. search needs) loop-again returns)
+count-spec =
+    tie.close
+    (tie.spec
+    Inv-loop
+    μ-loop
+    loop-holds
+    (λ c. search needs)
+    (λ c. search needs)
+    (λ c κs. search needs)
+    (λ c. search needs)
+    (λ c. search needs)
+    (λ c. search needs)
+    loop-again
+    returns)

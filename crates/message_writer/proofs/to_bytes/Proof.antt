@@ -57,7 +57,7 @@ returns c =
 returns-2 : tie.Need-returns-2
 returns-2 c =
     let start = c .before .before .before .before .before .before .before .before in
-    writes-refused _ (asked start) (sym (c .before .takes .ensures _ (omega arith)) ∙ c .if1 .left)
+    writes-refused _ (asked start) (c .before .takes .ensures _ (omega arith)) (c .if1 .left)
 
 pub to-bytes-spec : {M : Type 1} → statement M
 to-bytes-spec =

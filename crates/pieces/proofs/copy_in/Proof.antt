@@ -23,23 +23,18 @@ loop-again c =
 returns : tie.Need-returns Inv-loop μ-loop
 returns c = up-done _ _ _ _ _ _ refl (c .before .loop .inv) (c .loop-test .left)
 
-shared-slice-read-mem : tie.Need-shared-slice-read-mem Inv-loop μ-loop
-shared-slice-read-mem c = omega arith
-
-add-mem : tie.Need-add-mem Inv-loop μ-loop
-add-mem c = omega arith
-
-slice-write-mem : tie.Need-slice-write-mem Inv-loop μ-loop
-slice-write-mem c = omega arith
-
-add-i : tie.Need-add-i Inv-loop μ-loop
-add-i c = omega arith
-
-loop-less : tie.Need-loop-less Inv-loop μ-loop
-loop-less c = omega arith
-
-same-length : tie.Need-same-length Inv-loop μ-loop
-same-length c = omega arith
-
 pub copy-in-spec : {M : Type 1} → statement M
-copy-in-spec = tie.close (tie.spec Inv-loop μ-loop loop-holds shared-slice-read-mem add-mem slice-write-mem add-i loop-less loop-again same-length returns)
+copy-in-spec =
+    tie.close
+    (tie.spec
+    Inv-loop
+    μ-loop
+    loop-holds
+    (λ c. omega arith)
+    (λ c. omega arith)
+    (λ c. omega arith)
+    (λ c. omega arith)
+    (λ c. omega arith)
+    loop-again
+    (λ c. omega arith)
+    returns)

@@ -25,26 +25,19 @@ loop-again c =
 returns : tie.Need-returns Inv-loop μ-loop
 returns c = up-done _ _ _ _ _ _ (length-part _ _ _ (c .before .before .pre .1)) (c .before .loop .inv) (c .loop-test .left)
 
-add-mem : tie.Need-add-mem Inv-loop μ-loop
-add-mem c = omega arith
-
-slice-read-mem : tie.Need-slice-read-mem Inv-loop μ-loop
-slice-read-mem c = omega arith
-
-add-mem-2 : tie.Need-add-mem-2 Inv-loop μ-loop
-add-mem-2 c = omega arith
-
-slice-write-mem : tie.Need-slice-write-mem Inv-loop μ-loop
-slice-write-mem c = omega arith
-
-add-i : tie.Need-add-i Inv-loop μ-loop
-add-i c = omega arith
-
-loop-less : tie.Need-loop-less Inv-loop μ-loop
-loop-less c = omega arith
-
-same-length : tie.Need-same-length Inv-loop μ-loop
-same-length c = omega arith
-
 pub move-left-spec : {M : Type 1} → statement M
-move-left-spec = tie.close (tie.spec Inv-loop μ-loop loop-holds add-mem slice-read-mem add-mem-2 slice-write-mem add-i loop-less loop-again same-length returns)
+move-left-spec =
+    tie.close
+    (tie.spec
+    Inv-loop
+    μ-loop
+    loop-holds
+    (λ c. omega arith)
+    (λ c. omega arith)
+    (λ c. omega arith)
+    (λ c. omega arith)
+    (λ c. omega arith)
+    (λ c. omega arith)
+    loop-again
+    (λ c. omega arith)
+    returns)

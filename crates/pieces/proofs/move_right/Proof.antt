@@ -29,26 +29,19 @@ loop-again c =
 returns : tie.Need-returns Inv-loop μ-loop
 returns c = down-done _ _ _ _ _ _ (c .before .loop .inv) (c .loop-test .left)
 
-sub-i : tie.Need-sub-i Inv-loop μ-loop
-sub-i c = omega arith
-
-add-mem : tie.Need-add-mem Inv-loop μ-loop
-add-mem c = omega arith
-
-slice-read-mem : tie.Need-slice-read-mem Inv-loop μ-loop
-slice-read-mem c = omega arith
-
-add-mem-2 : tie.Need-add-mem-2 Inv-loop μ-loop
-add-mem-2 c = omega arith
-
-slice-write-mem : tie.Need-slice-write-mem Inv-loop μ-loop
-slice-write-mem c = omega arith
-
-loop-less : tie.Need-loop-less Inv-loop μ-loop
-loop-less c = omega arith
-
-same-length : tie.Need-same-length Inv-loop μ-loop
-same-length c = omega arith
-
 pub move-right-spec : {M : Type 1} → statement M
-move-right-spec = tie.close (tie.spec Inv-loop μ-loop loop-holds sub-i add-mem slice-read-mem add-mem-2 slice-write-mem loop-less loop-again same-length returns)
+move-right-spec =
+    tie.close
+    (tie.spec
+    Inv-loop
+    μ-loop
+    loop-holds
+    (λ c. omega arith)
+    (λ c. omega arith)
+    (λ c. omega arith)
+    (λ c. omega arith)
+    (λ c. omega arith)
+    (λ c. omega arith)
+    loop-again
+    (λ c. omega arith)
+    returns)

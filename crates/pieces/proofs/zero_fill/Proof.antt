@@ -24,20 +24,17 @@ loop-again c =
 returns : tie.Need-returns Inv-loop μ-loop
 returns c = up-done _ _ _ _ _ _ (length-replicate _ _) (c .before .loop .inv) (c .loop-test .left)
 
-add-mem : tie.Need-add-mem Inv-loop μ-loop
-add-mem c = omega arith
-
-slice-write-mem : tie.Need-slice-write-mem Inv-loop μ-loop
-slice-write-mem c = omega arith
-
-add-i : tie.Need-add-i Inv-loop μ-loop
-add-i c = omega arith
-
-loop-less : tie.Need-loop-less Inv-loop μ-loop
-loop-less c = omega arith
-
-same-length : tie.Need-same-length Inv-loop μ-loop
-same-length c = omega arith
-
 pub zero-fill-spec : {M : Type 1} → statement M
-zero-fill-spec = tie.close (tie.spec Inv-loop μ-loop loop-holds add-mem slice-write-mem add-i loop-less loop-again same-length returns)
+zero-fill-spec =
+    tie.close
+    (tie.spec
+    Inv-loop
+    μ-loop
+    loop-holds
+    (λ c. omega arith)
+    (λ c. omega arith)
+    (λ c. omega arith)
+    (λ c. omega arith)
+    loop-again
+    (λ c. omega arith)
+    returns)

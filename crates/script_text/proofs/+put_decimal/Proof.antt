@@ -24,96 +24,6 @@ abbrev put-decimal-below : ℕ → In 1 put-decimal-kinds.ps
 put-decimal-below t =
     and 1 put-decimal-kinds.ps (falls 1 put-decimal-kinds.ps (λ (m n : ℕ). m < n) μ-put-decimal t) put-decimal.Pre
 
-put-decimal-last-digit-requires : (t : ℕ) → put-decimal-lts.Need-last-digit-requires (
-  last-digit-reads.Asked,
-  last-digit-reads.Learnt,
-  put-byte-reads.Asked,
-  put-byte-reads.Learnt,
-  put-decimal-below t,
-  put-decimal.Post,
-) (put-decimal-at t) put-decimal.Post
-put-decimal-last-digit-requires t c κs = tt
-
-put-decimal-put-byte-requires : (t : ℕ) → put-decimal-lts.Need-put-byte-requires (
-  last-digit-reads.Asked,
-  last-digit-reads.Learnt,
-  put-byte-reads.Asked,
-  put-byte-reads.Learnt,
-  put-decimal-below t,
-  put-decimal.Post,
-) (put-decimal-at t) put-decimal.Post
-put-decimal-put-byte-requires t c κs = omega (arith, c .before .before .before .before .pre .1)
-
-put-decimal-same-length : (t : ℕ) → put-decimal-lts.Need-same-length (
-  last-digit-reads.Asked,
-  last-digit-reads.Learnt,
-  put-byte-reads.Asked,
-  put-byte-reads.Learnt,
-  put-decimal-below t,
-  put-decimal.Post,
-) (put-decimal-at t) put-decimal.Post
-put-decimal-same-length t c = search needs
-
-put-decimal-returns : (t : ℕ) → put-decimal-lts.Need-returns (
-  last-digit-reads.Asked,
-  last-digit-reads.Learnt,
-  put-byte-reads.Asked,
-  put-byte-reads.Learnt,
-  put-decimal-below t,
-  put-decimal.Post,
-) (put-decimal-at t) put-decimal.Post
-put-decimal-returns t c = let p = put-as (c .before .before .put-byte .ensures) (one-digit _ _ (c .before .before .before .before .before .if1 .taken) (c .before .before .before .last-digit .ensures)) in (p, put-bound 20 p (decimal-length _))
-
-put-decimal-put-decimal-requires : (t : ℕ) → put-decimal-lts.Need-put-decimal-requires (
-  last-digit-reads.Asked,
-  last-digit-reads.Learnt,
-  put-byte-reads.Asked,
-  put-byte-reads.Learnt,
-  put-decimal-below t,
-  put-decimal.Post,
-) (put-decimal-at t) put-decimal.Post
-put-decimal-put-decimal-requires t c κs = (omega (arith, c .before .before .before .pre .0, c .before .if1 .left), c .before .before .before .pre .1)
-
-put-decimal-last-digit-requires-2 : (t : ℕ) → put-decimal-lts.Need-last-digit-requires-2 (
-  last-digit-reads.Asked,
-  last-digit-reads.Learnt,
-  put-byte-reads.Asked,
-  put-byte-reads.Learnt,
-  put-decimal-below t,
-  put-decimal.Post,
-) (put-decimal-at t) put-decimal.Post
-put-decimal-last-digit-requires-2 t c κs = tt
-
-put-decimal-put-byte-requires-2 : (t : ℕ) → put-decimal-lts.Need-put-byte-requires-2 (
-  last-digit-reads.Asked,
-  last-digit-reads.Learnt,
-  put-byte-reads.Asked,
-  put-byte-reads.Learnt,
-  put-decimal-below t,
-  put-decimal.Post,
-) (put-decimal-at t) put-decimal.Post
-put-decimal-put-byte-requires-2 t c κs = omega (arith, one-longer (c .before .before .before .before .before .before .before .before .args .n) (c .before .before .before .before .before .before .if1 .left) (c .before .before .before .before .before .before .before .before .fits .n .fits), decimal-length (c .before .before .before .before .before .before .before .before .args .n), c .before .before .before .before .before .before .before .before .pre .1, c .before .before .before .before .put-decimal .ensures .0 .to, c .before .before .before .before .put-decimal .kept .0)
-
-put-decimal-same-length-2 : (t : ℕ) → put-decimal-lts.Need-same-length-2 (
-  last-digit-reads.Asked,
-  last-digit-reads.Learnt,
-  put-byte-reads.Asked,
-  put-byte-reads.Learnt,
-  put-decimal-below t,
-  put-decimal.Post,
-) (put-decimal-at t) put-decimal.Post
-put-decimal-same-length-2 t c = search needs
-
-put-decimal-returns-2 : (t : ℕ) → put-decimal-lts.Need-returns-2 (
-  last-digit-reads.Asked,
-  last-digit-reads.Learnt,
-  put-byte-reads.Asked,
-  put-byte-reads.Learnt,
-  put-decimal-below t,
-  put-decimal.Post,
-) (put-decimal-at t) put-decimal.Post
-put-decimal-returns-2 t c = let p = put-as (put-then (c .before .before .before .before .before .before .before .put-decimal .ensures .0) (c .before .before .put-byte2 .ensures)) (last-digit _ _ (c .before .before .before .before .before .before .before .before .before .if1 .left) (c .before .before .before .before .before .before .before .before .before .before .before .fits .n .fits) (c .before .before .before .last-digit2 .ensures)) in (p, put-bound 20 p (decimal-length _))
-
 pub +put-decimal-spec : {M : Type 1} → statement M
 +put-decimal-spec = close μ-put-decimal λ t. put-decimal-lts.spec (
   last-digit-reads.Asked,
@@ -125,12 +35,34 @@ pub +put-decimal-spec : {M : Type 1} → statement M
 )
     (put-decimal-at t)
     put-decimal.Post
-    (put-decimal-last-digit-requires t)
-    (put-decimal-put-byte-requires t)
-    (put-decimal-same-length t)
-    (put-decimal-returns t)
-    (put-decimal-put-decimal-requires t)
-    (put-decimal-last-digit-requires-2 t)
-    (put-decimal-put-byte-requires-2 t)
-    (put-decimal-same-length-2 t)
-    (put-decimal-returns-2 t)
+    (λ c κs. tt)
+    (λ c κs. omega (arith, c .before .before .before .before .pre .1))
+    (λ c. search needs)
+    (λ c.
+    let put = c .before .before in
+    let digit = put .before in
+    let p = put-as (put .put-byte .ensures) (one-digit _ _ (digit .before .before .if1 .taken) (digit .last-digit .ensures)) in
+    (p, put-bound 20 p (decimal-length _)))
+    (λ c κs. let start = c .before .before .before in (omega (arith, start .pre .0, c .before .if1 .left), start .pre .1))
+    (λ c κs. tt)
+    (λ c κs.
+    let before = c .before .before .before .before in
+    let tested = before .before .before in
+    let start = tested .before .before in
+    let n = start .args .n in
+    omega (
+      arith,
+      one-longer n (tested .if1 .left) (start .fits .n .fits),
+      decimal-length n,
+      start .pre .1,
+      before .put-decimal .ensures .0 .to,
+      before .put-decimal .kept .0,
+    ))
+    (λ c. search needs)
+    (λ c.
+    let put = c .before .before in
+    let before = put .before .before .before .before .before in
+    let tested = before .before .before in
+    let digits = put-then (before .put-decimal .ensures .0) (put .put-byte2 .ensures) in
+    let p = put-as digits (last-digit _ _ (tested .if1 .left) (tested .before .before .fits .n .fits) (put .before .last-digit2 .ensures)) in
+    (p, put-bound 20 p (decimal-length _)))

@@ -4,19 +4,13 @@ use borrow.Author.Needs.{needs}
 use Rattle.script_text.proofs.hex_digit.Statement.{statement}
 use Rattle.script_text.proofs.hex_digit.Tie as tie
 
-add-result : tie.Need-add-result
-add-result c = search needs
-
-returns : tie.Need-returns
+decimal : tie.Need-returns
 unfolding hexDigit
-returns c = rw (lt-ltb _ 10 (c .if1 .taken))
+decimal c = rw (lt-ltb _ 10 (c .if1 .taken))
 
-add-result-2 : tie.Need-add-result-2
-add-result-2 c = search needs
-
-returns-2 : tie.Need-returns-2
+letter : tie.Need-returns-2
 unfolding hexDigit
-returns-2 c = rw (le-ltb _ 10 (c .if1 .left))
+letter c = rw (le-ltb _ 10 (c .if1 .left))
 
 pub hex-digit-spec : {M : Type 1} → statement M
-hex-digit-spec = tie.close (tie.spec add-result returns add-result-2 returns-2)
+hex-digit-spec = tie.close (tie.spec (λ c. search needs) decimal (λ c. search needs) letter)

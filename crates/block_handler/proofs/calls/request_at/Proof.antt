@@ -5,8 +5,10 @@ use lib.ListN.{length}
 use Rattle.block_table.specs.declared.Table.{Table}
 use Rattle.block_table.specs.Table.{sweep}
 use Rattle.places.specs.Places.{opened}
-use Rattle.judge.specs.Verdict.{lengths, HasPlace}
+use Rattle.keys.specs.Keys.{Name}
+use Rattle.judge.specs.Verdict.{lengths}
 use Rattle.judge.proofs.Judged.{AtPlace, at-place}
+use Rattle.block_handler.specs.Contract.{Placed}
 use Rattle.block_handler.proofs.Meanings.{opened-at, changed-at, lent-piece, lent-length, lent-back, asked-left}
 use borrow.Author.Needs.{needs}
 use Rattle.block_handler.proofs.calls.request_at.Statement.{statement}
@@ -14,38 +16,35 @@ use Rattle.block_handler.proofs.calls.request_at.Tie as tie
 
 -- what the verdict tells
 placed : (c : tie.Start) → let a = c .args in
-    AtPlace (a .config) (c .pre .1) (a .asked .time) (a .key .now) (lengths (length (a .upload .now)) (c .pre .0) (a .asked .bare) (length (a .payload .now)) 0) (a .i)
-placed c = at-place _ _ _ _ _ _ (c .pre .2 .1)
+    AtPlace (a .config) (c .pre .2) (a .asked .time) (c .pre .0) (lengths (length (a .upload .now)) (c .pre .1) (a .asked .bare) (length (a .payload .now)) 0) (a .i)
+placed c = at-place _ _ _ _ _ _ (c .pre .3 .1 .1)
 
 -- the entry that the step starts from
-entry-is : (c : tie.After-opened-entry) → let a = c .before .before .before .before .args in (v : ℕ) (t : Table)
-    → HasPlace (a .config) (a .sight) (a .asked .time) (a .key .now) (lengths (length (a .upload .now)) v (a .asked .bare) (length (a .payload .now)) 0) (a .i) t
-    → c .opened-entry .result ≡ opened (a .key .now) (sweep (a .config .lifetime) (a .asked .time) (t .entries))
-entry-is c v t has = c .opened-entry .ensures ∙ opened-at _ _ _ _ _ _ t has
+entry-is : (c : tie.After-opened-entry) → let a = c .before .before .before .args in (k : Name) (v : ℕ) (t : Table)
+    → Placed (a .config) (a .sight) (a .key) (a .asked .time) (lengths (length (a .upload .now)) v (a .asked .bare) (length (a .payload .now)) 0) (a .i) k t
+    → c .opened-entry .result ≡ opened k (sweep (a .config .lifetime) (a .asked .time) (t .entries))
+entry-is c k v t has = c .opened-entry .ensures ∙ opened-at _ _ _ _ _ _ t (has .1) _ (has .0)
 
 -- its piece holds what is assembled
-holds : (c : tie.After-opened-entry) → let s = c .before .before .before .before in c .opened-entry .result .state .assembled .len ≤ s .args .config .upload
-holds c = let s = c .before .before .before .before in rw (entry-is c (s .pre .0) (s .pre .1) (s .pre .2)) (placed s .holds (s .pre .2 .0 .1))
-
-opened-entry-requires : tie.Need-opened-entry-requires
-opened-entry-requires c κs = placed (c .before .before .before) .named
+holds : (c : tie.After-opened-entry) → let s = c .before .before .before in c .opened-entry .result .state .assembled .len ≤ s .args .config .upload
+holds c = let s = c .before .before .before in rw (entry-is c (s .pre .0) (s .pre .1) (s .pre .2) (s .pre .3)) (placed s .holds (s .pre .3 .1 .0 .1))
 
 mul-home : tie.Need-mul-home
-mul-home c = omega (arith, placed (c .before .before .before .before .before .before))
+mul-home c = omega (arith, placed (c .before .before .before .before .before))
 
 mul-away : tie.Need-mul-away
-mul-away c = omega (arith, placed (c .before .before .before .before .before .before .before))
+mul-away c = omega (arith, placed (c .before .before .before .before .before .before))
 
 add-end : tie.Need-add-end
-add-end c = omega (arith, placed (c .before .before .before .before .before .before .before .before))
+add-end c = omega (arith, placed (c .before .before .before .before .before .before .before))
 
 part-ends : tie.Need-part-step-request-end
-part-ends c = omega (arith, placed (c .before .before .before .before .before .before .before .before))
+part-ends c = omega (arith, placed (c .before .before .before .before .before .before .before))
 
 step-request-requires : tie.Need-step-request-requires
 step-request-requires c κs =
     let from = c .before .before .before .before .before in
-    let s = from .before .before .before .before in
+    let s = from .before .before .before in
     let p = placed s in
     let long = lent-length (s .args .upload .now) (s .args .config .upload) (s .args .i) (p .up) in
     record { size = long; small = omega arith; holds = rw long (holds from); home = omega arith; away = omega arith }
@@ -54,17 +53,17 @@ returns : tie.Need-returns
 returns c =
     let stepped = c .before .before .before .before in
     let from = stepped .before .before .before .before .before .before in
-    let a = from .before .before .before .before .args in
+    let a = from .before .before .before .args in
     let g = stepped .step-request in
     let m = a .upload .now in
     let n = a .config .upload in (
-      (λ v t has d.
-          let is = entry-is from v t has in
-          let p = at-place _ t _ _ _ _ (has .1) in
+      (λ k v t has d.
+          let is = entry-is from k v t has in
+          let p = at-place _ t _ _ _ _ (has .1 .1) in
           let row = sweep (a .config .lifetime) (a .asked .time) (t .entries) in
           rw (c .leave .ensures)
-          (asked-left (a .config) t m d (a .asked .time) row (a .i) (opened (a .key .now) row) _ (g .result .state) (g .last .1 .1 .1 .1 .0) _ (g .result .answer)
-          (rw is (changed-at _ _ _ _ _ _ t has _ (g .result))) (a .asked) (a .payload .now) refl
+          (asked-left (a .config) t m d (a .asked .time) row (a .i) (opened k row) _ (g .result .state) (g .last .1 .1 .1 .1 .0) _ (g .result .answer)
+          (rw is (changed-at _ _ _ _ _ _ t (has .1) _ (g .result))) (a .asked) (a .payload .now) refl
           (rw (is, lent-piece m n (a .i)) at (g .ensures))
           (lent-back m n (a .i) _ (g .kept .1 .1 .1 .1 .0 ∙ lent-length m n (a .i) (p .up))))),
       rw (c .leave .ensures) refl,
@@ -74,7 +73,7 @@ pub request-at-spec : {M : Type 1} → statement M
 request-at-spec =
     tie.close
     (tie.spec
-    opened-entry-requires
+    (λ c κs. search needs)
     mul-home
     mul-away
     add-end

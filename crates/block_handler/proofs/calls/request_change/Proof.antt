@@ -1,8 +1,9 @@
 use mathlib.Core.Path.{refl, sym, _∙_}
 use lib.ListN.{length}
+use Rattle.keys.proofs.Keys.{named-key}
 use Rattle.judge.proofs.Judged.{at-place, verdict-seen}
-use Rattle.block_handler.proofs.Meanings.{call-by, request-ok, refusal, seen-below, asked-is}
 use Rattle.block_handler.specs.Contract.{requestCall}
+use Rattle.block_handler.proofs.Meanings.{call-by, request-ok, refusal, seen-below, asked-is}
 use borrow.Author.Needs.{needs}
 use Rattle.block_handler.proofs.calls.request_change.Statement.{statement}
 use Rattle.block_handler.proofs.calls.request_change.Tie as tie
@@ -12,14 +13,18 @@ request-at-requires c κs =
     let read = c .before in
     let told = read .before .before in
     let judged = told .before .before in
-    let sees = judged .before .look .ensures in
-    rw (read .read-options .ensures) (_, _, (sees, sym (judged .judge .ensures ∙ verdict-seen _ _ _ _ _ _ sees) ∙ told .i .given .1))
+    let look = judged .before .before in
+    let name = look .before .named .ensures in
+    let sees = look .look .ensures _ name in
+    let placed = sym (judged .judge .ensures ∙ verdict-seen _ _ _ _ _ _ sees) ∙ told .i .given .1 in
+    rw (read .read-options .ensures) (_, _, _, (named-key _ _ name (at-place _ _ _ _ _ _ placed .named), (sees, placed)))
 
 returns : tie.Need-returns
 returns c =
     let told = c .before .before in
     let judged = told .before .before in
-    let sees = judged .before .look .ensures in (
+    let look = judged .before .before in
+    let sees = look .look .ensures _ (look .before .named .ensures) in (
       refusal _ _ _ _ (c .refused .ensures .0 _ _ _ _ _ sees) (c .refused .ensures .1)
           ∙ call-by _ _ _ _ _ _ (request-ok _) _ _ (judged .judge .ensures ∙ verdict-seen _ _ _ _ _ _ sees) (told .n .given .1),
       rw (c .refused .ensures .2) (seen-below _ _ _ _ _ sees),
@@ -31,14 +36,18 @@ returns-2 c =
     let read = at .before .before in
     let told = read .before .before in
     let judged = told .before .before in
-    let a = judged .before .before .before .before .before .before .before .before .args in
-    let sees = judged .before .look .ensures in
+    let look = judged .before .before in
+    let a = look .before .before .before .before .before .before .before .before .args in
+    let name = look .before .named .ensures in
+    let sees = look .look .ensures _ name in
     let is = judged .judge .ensures ∙ verdict-seen _ _ _ _ _ _ sees in
     let placed = sym is ∙ told .i .given .1 in
-    let asked = read .read-options .ensures in (
-      rw asked at (at .request-at .ensures .0 (length (a .response .now)) (a .table) (rw asked (sees, placed)) (a .response .now))
+    let asked = read .read-options .ensures in
+    let own = named-key _ _ name (at-place _ _ _ _ _ _ placed .named) in
+    let q = requestCall (a .numbers) (a .key .now) (a .block1 .now) (a .block2 .now) (a .payload .now) in (
+      rw asked at (at .request-at .ensures .0 (a .key .now) (length (a .response .now)) (a .table) (rw asked (own, (sees, placed))) (a .response .now))
           ∙ asked-is _ _ _ _ _ (a .numbers) (a .block1 .now) (a .block2 .now) (a .payload .now) _ refl
-          ∙ call-by _ _ (requestCall (a .numbers) (a .key .now) (a .block1 .now) (a .block2 .now) (a .payload .now)) _ _ _ (request-ok _) _ _ is (told .i .given .1),
+          ∙ call-by _ _ q _ _ _ (request-ok _) _ _ is (told .i .given .1),
       rw (at .request-at .ensures .1) (at-place _ _ _ _ _ _ placed .below),
     )
 
@@ -46,6 +55,7 @@ pub request-change-spec : {M : Type 1} → statement M
 request-change-spec =
     tie.close
     (tie.spec
+    (λ c κs. search needs)
     (λ c κs. search needs)
     (λ c κs. search needs)
     (λ c. search needs)

@@ -14,26 +14,23 @@ use Rattle.block_handler.proofs.calls.response_at.Tie as tie
 
 -- what the verdict tells
 placed : (c : tie.Start) → let a = c .args in
-    AtPlace (a .config) (c .pre .1) (a .numbers .time) (a .key .now)
-    (lengths (c .pre .0) (length (a .response .now)) (a .numbers .bare) (length (a .payload .now)) (length (a .head .now))) (a .i)
-placed c = at-place _ _ _ _ _ _ (c .pre .2 .1)
-
-opened-entry-requires : tie.Need-opened-entry-requires
-opened-entry-requires c κs = placed (c .before .before .before .before) .named
+    AtPlace (a .config) (c .pre .2) (a .numbers .time) (c .pre .0)
+    (lengths (c .pre .1) (length (a .response .now)) (a .numbers .bare) (length (a .payload .now)) (length (a .head .now))) (a .i)
+placed c = at-place _ _ _ _ _ _ (c .pre .3 .1 .1)
 
 mul-from : tie.Need-mul-from
-mul-from c = omega (arith, placed (c .before .before .before .before .before .before .before))
+mul-from c = omega (arith, placed (c .before .before .before .before .before .before))
 
 add-end : tie.Need-add-end
-add-end c = omega (arith, placed (c .before .before .before .before .before .before .before .before))
+add-end c = omega (arith, placed (c .before .before .before .before .before .before .before))
 
 part-ends : tie.Need-part-step-response-end
-part-ends c = omega (arith, placed (c .before .before .before .before .before .before .before .before))
+part-ends c = omega (arith, placed (c .before .before .before .before .before .before .before))
 
 step-response-requires : tie.Need-step-response-requires
 step-response-requires c κs =
     let from = c .before .before .before .before in
-    let s = from .before .before .before .before .before in
+    let s = from .before .before .before .before in
     let p = placed s in
     (lent-length (s .args .response .now) (s .args .config .response) (s .args .i) (p .down), omega arith, p .headed)
 
@@ -41,17 +38,17 @@ returns : tie.Need-returns
 returns c =
     let stepped = c .before .before .before .before in
     let from = stepped .before .before .before .before .before in
-    let a = from .before .before .before .before .before .args in
+    let a = from .before .before .before .before .args in
     let g = stepped .step-response in
     let m = a .response .now in
     let n = a .config .response in (
-      (λ u t has d.
-          let is = from .opened-entry .ensures ∙ opened-at _ _ _ _ _ _ t has in
-          let p = at-place _ t _ _ _ _ (has .1) in
+      (λ k u t has d.
+          let is = from .opened-entry .ensures ∙ opened-at _ _ _ _ _ _ t (has .1) _ (has .0) in
+          let p = at-place _ t _ _ _ _ (has .1 .1) in
           let row = sweep (a .config .lifetime) (a .numbers .time) (t .entries) in
           rw (c .leave .ensures)
-          (response-left (a .config) t d m (a .numbers .time) row (a .i) (opened (a .key .now) row) _ (g .result .state) (g .last .1 .1 .0) _ (g .result .answer)
-          (rw is (changed-at _ _ _ _ _ _ t has _ (g .result))) _ (rw (is, lent-piece m n (a .i)) at (g .ensures))
+          (response-left (a .config) t d m (a .numbers .time) row (a .i) (opened k row) _ (g .result .state) (g .last .1 .1 .0) _ (g .result .answer)
+          (rw is (changed-at _ _ _ _ _ _ t (has .1) _ (g .result))) _ (rw (is, lent-piece m n (a .i)) at (g .ensures))
           (lent-back m n (a .i) _ (g .kept .1 .1 .0 ∙ lent-length m n (a .i) (p .down))))),
       rw (c .leave .ensures) refl,
     )
@@ -60,7 +57,7 @@ pub response-at-spec : {M : Type 1} → statement M
 response-at-spec =
     tie.close
     (tie.spec
-    opened-entry-requires
+    (λ c κs. search needs)
     mul-from
     add-end
     (λ c. search needs)

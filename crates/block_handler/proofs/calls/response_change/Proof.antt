@@ -1,4 +1,5 @@
 use mathlib.Core.Path.{sym, _∙_}
+use Rattle.keys.proofs.Keys.{named-key}
 use Rattle.judge.proofs.Judged.{at-place, verdict-seen}
 use Rattle.block_handler.proofs.Meanings.{call-by, response-ok, refusal, seen-below}
 use borrow.Author.Needs.{needs}
@@ -9,14 +10,18 @@ response-at-requires : tie.Need-response-at-requires
 response-at-requires c κs =
     let told = c .before .before in
     let judged = told .before .before in
-    let sees = judged .before .look .ensures in
-    (_, _, (sees, sym (judged .judge .ensures ∙ verdict-seen _ _ _ _ _ _ sees) ∙ told .i .given .1))
+    let look = judged .before .before in
+    let name = look .before .named .ensures in
+    let sees = look .look .ensures _ name in
+    let placed = sym (judged .judge .ensures ∙ verdict-seen _ _ _ _ _ _ sees) ∙ told .i .given .1 in
+    (_, _, _, (named-key _ _ name (at-place _ _ _ _ _ _ placed .named), (sees, placed)))
 
 returns : tie.Need-returns
 returns c =
     let told = c .before .before in
     let judged = told .before .before in
-    let sees = judged .before .look .ensures in (
+    let look = judged .before .before in
+    let sees = look .look .ensures _ (look .before .named .ensures) in (
       refusal _ _ _ _ (c .refused .ensures .0 _ _ _ _ _ sees) (c .refused .ensures .1)
           ∙ call-by _ _ _ _ _ _ (response-ok _) _ _ (judged .judge .ensures ∙ verdict-seen _ _ _ _ _ _ sees) (told .n .given .1),
       rw (c .refused .ensures .2) (seen-below _ _ _ _ _ sees),
@@ -27,11 +32,14 @@ returns-2 c =
     let at = c .before .before in
     let told = at .before .before .before in
     let judged = told .before .before in
-    let start = judged .before .before .before .before .before .before .before in
-    let sees = judged .before .look .ensures in
+    let look = judged .before .before in
+    let a = look .before .before .before .before .before .before .before .args in
+    let name = look .before .named .ensures in
+    let sees = look .look .ensures _ name in
     let is = judged .judge .ensures ∙ verdict-seen _ _ _ _ _ _ sees in
-    let placed = sym is ∙ told .i .given .1 in (
-      at .response-at .ensures .0 _ _ (sees, placed) (start .args .upload .now) ∙ call-by _ _ _ _ _ _ (response-ok _) _ _ is (told .i .given .1),
+    let placed = sym is ∙ told .i .given .1 in
+    let own = named-key _ _ name (at-place _ _ _ _ _ _ placed .named) in (
+      at .response-at .ensures .0 _ _ _ (own, (sees, placed)) (a .upload .now) ∙ call-by _ _ _ _ _ _ (response-ok _) _ _ is (told .i .given .1),
       rw (at .response-at .ensures .1) (at-place _ _ _ _ _ _ placed .below),
     )
 
@@ -39,6 +47,7 @@ pub response-change-spec : {M : Type 1} → statement M
 response-change-spec =
     tie.close
     (tie.spec
+    (λ c κs. search needs)
     (λ c κs. search needs)
     (λ c κs. search needs)
     (λ c. search needs)

@@ -1,46 +1,55 @@
-use mathlib.Core.Path.{sym, ap, _∙_}
+use mathlib.Core.Path.{_≡_, sym, ap, _∙_}
 use mathlib.Core.List.{List}
-use Prim.Native.Nat.{ℕ}
+use Prim.Native.Nat.{ℕ, _≤_}
 use native.Mathlib.Omega.{arith}
 use lib.ListN.{length}
 use borrow.Author.Needs.{needs}
 use Rattle.pieces.proofs.Puts.{put-as}
 use Rattle.message.specs.Format.{meaningOf}
+use Rattle.message_text.specs.Fields.{unreadableText}
 use Rattle.message_text.specs.Text.{meaningText}
-use Rattle.message_text.proofs.Lines.{pairs-length, long-line, bad-line, good-line, lent-first}
+use Rattle.message_text.proofs.Lines.{Good, pairs-length, bad-line, good-line, lent-first}
 use Rattle.message_text.proofs.line.put_line.Statement.{statement}
 use Rattle.message_text.proofs.line.put_line.Tie as tie
 
+abbrev decoded : tie.After-n → tie.After-decode-line
+decoded c = c .before .before .before .before
+
+abbrev start : tie.After-n → tie.Start
+start c = decoded c .before .before .before .before .before
+
+-- the line has bytes
+good : (c : tie.After-n) → Good (start c .args .line .now) (start c .args .number) (c .n .given .0 .0)
+good c = good-line (start c .args .line .now) (start c .args .number) _ (sym (decoded c .decode-line .ensures .0) ∙ c .n .given .1)
+
 returns : tie.Need-returns
-returns c = (put-as (c .before .before .put-unreadable .ensures .0) (long-line (c .before .before .before .before .before .before .before .before .args .number) (c .before .before .before .before .before .before .before .before .args .line .now) (c .before .before .before .before .if1 .taken)), omega (arith, c .before .before .put-unreadable .ensures .1))
+unfolding unreadableText
+returns c =
+    let put = c .before .before in
+    let bad = put .before .before .before in
+    let decoded = bad .before .before .before .before in (
+      put-as (put .put-verdict .ensures .0) (bad-line _ _ (sym (decoded .decode-line .ensures .0) ∙ bad .enum-told .given .1)),
+      omega (arith, put .put-verdict .ensures .1),
+    )
+
+bytes-there : tie.Need-part-put-message-end
+bytes-there c = let n = c .before .before .before in omega (arith, decoded n .decode-line .ensures .1 _ (n .n .given .1) .0)
+
+message-fits : tie.Need-put-message-requires
+message-fits c κs =
+    let n = c .before .before .before .before in
+    let lent = lent-first (n .n .given .0 .0) (decoded n .decode-line .last .1 .0) ∙ decoded n .decode-line .ensures .1 _ (n .n .given .1) .1 in
+    omega (arith, ap length lent, pairs-length (start n .args .line .now), good n .short, start n .pre .1)
 
 returns-2 : tie.Need-returns-2
-returns-2 c = (put-as (c .before .before .put-unreadable2 .ensures .0) (bad-line (c .before .before .before .before .before .before .before .before .before .before .before .before .before .before .args .number) (c .before .before .before .before .before .before .before .before .before .before .before .before .before .before .args .line .now) (c .before .before .before .before .before .before .before .before .before .before .if1 .left) (sym (c .before .before .before .before .before .before .before .before .decode-pairs .ensures .0) ∙ c .before .before .before .before .enum-told .given .1)), omega (arith, c .before .before .put-unreadable2 .ensures .1))
-
-part-put-message-end : tie.Need-part-put-message-end
-part-put-message-end c =
-    let n = c .before .before .before .n .given .0 .0 in
-    let held = c .before .before .before .before .before .before .before .decode-pairs .ensures .1 n (c .before .before .before .n .given .1) in
-    let good = good-line (c .before .before .before .before .before .before .before .before .before .before .before .before .before .args .number) (c .before .before .before .before .before .before .before .before .before .before .before .before .before .args .line .now) (c .before .before .before .before .before .before .before .before .before .if1 .left) n (sym (c .before .before .before .before .before .before .before .decode-pairs .ensures .0) ∙ c .before .before .before .n .given .1) in
-    omega (arith, held .0)
-
-put-message-requires : tie.Need-put-message-requires
-put-message-requires c κs =
-    let n = c .before .before .before .before .n .given .0 .0 in
-    let held = c .before .before .before .before .before .before .before .before .decode-pairs .ensures .1 n (c .before .before .before .before .n .given .1) in
-    let good = good-line (c .before .before .before .before .before .before .before .before .before .before .before .before .before .before .args .number) (c .before .before .before .before .before .before .before .before .before .before .before .before .before .before .args .line .now) (c .before .before .before .before .before .before .before .before .before .before .if1 .left) n (sym (c .before .before .before .before .before .before .before .before .decode-pairs .ensures .0) ∙ c .before .before .before .before .n .given .1) in
-    let lent = lent-first n (c .before .before .before .before .before .before .before .before .decode-pairs .last .1 .0) ∙ held .1 in
-    let few = pairs-length (c .before .before .before .before .before .before .before .before .before .before .before .before .before .before .args .line .now) in
-    omega (arith, ap length lent, few, c .before .before .before .before .before .before .before .before .before .before .if1 .left, c .before .before .before .before .before .before .before .before .before .before .before .before .before .before .pre .1)
-
-returns-3 : tie.Need-returns-3
-returns-3 c =
-    let n = c .before .before .before .before .before .before .before .n .given .0 .0 in
-    let held = c .before .before .before .before .before .before .before .before .before .before .before .decode-pairs .ensures .1 n (c .before .before .before .before .before .before .before .n .given .1) in
-    let good = good-line (c .before .before .before .before .before .before .before .before .before .before .before .before .before .before .before .before .before .args .number) (c .before .before .before .before .before .before .before .before .before .before .before .before .before .before .before .before .before .args .line .now) (c .before .before .before .before .before .before .before .before .before .before .before .before .before .if1 .left) n (sym (c .before .before .before .before .before .before .before .before .before .before .before .decode-pairs .ensures .0) ∙ c .before .before .before .before .before .before .before .n .given .1) in
-    let lent = lent-first n (c .before .before .before .before .before .before .before .before .before .before .before .decode-pairs .last .1 .0) ∙ held .1 in
-    let few = pairs-length (c .before .before .before .before .before .before .before .before .before .before .before .before .before .before .before .before .before .args .line .now) in
-    (put-as (c .before .before .put-message .ensures .0) (ap (λ (b : List ℕ). meaningText (c .before .before .before .before .before .before .before .before .before .before .before .before .before .before .before .before .before .args .number) (meaningOf b)) lent ∙ good .1), omega (arith, ap length lent, few, c .before .before .before .before .before .before .before .before .before .before .before .before .before .if1 .left, c .before .before .put-message .ensures .1))
+returns-2 c =
+    let put = c .before .before in
+    let n = put .before .before .before .before .before in
+    let args = start n .args in
+    let lent = lent-first (n .n .given .0 .0) (decoded n .decode-line .last .1 .0) ∙ decoded n .decode-line .ensures .1 _ (n .n .given .1) .1 in (
+      put-as (put .put-message .ensures .0) (ap (λ (b : List ℕ). meaningText (args .number) (meaningOf b)) lent ∙ good n .text),
+      omega (arith, ap length lent, pairs-length (args .line .now), good n .short, put .put-message .ensures .1),
+    )
 
 pub put-line-spec : {M : Type 1} → statement M
 put-line-spec =
@@ -48,18 +57,16 @@ put-line-spec =
     (tie.spec
     (λ c κs. search needs)
     (λ c. search needs)
+    (λ c. search needs)
+    (λ c. search needs)
+    (λ c κs. search needs)
+    (λ c. search needs)
+    (λ c. search needs)
     returns
-    (λ c κs. search needs)
     (λ c. search needs)
     (λ c. search needs)
-    (λ c κs. search needs)
+    bytes-there
+    message-fits
     (λ c. search needs)
     (λ c. search needs)
-    returns-2
-    (λ c. search needs)
-    (λ c. search needs)
-    part-put-message-end
-    put-message-requires
-    (λ c. search needs)
-    (λ c. search needs)
-    returns-3)
+    returns-2)

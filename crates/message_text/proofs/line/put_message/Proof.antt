@@ -2,23 +2,41 @@ use mathlib.Core.Path.{sym, _∙_}
 use native.Mathlib.Omega.{arith}
 use borrow.Author.Needs.{needs}
 use Rattle.pieces.proofs.Puts.{put-then, put-as}
+use Rattle.message_text.specs.Fields.{refusedText}
 use Rattle.message_text.proofs.Places.{read-tells, refused-line, message-line}
 use Rattle.message_text.proofs.line.put_message.Statement.{statement}
 use Rattle.message_text.proofs.line.put_message.Tie as tie
 
 returns : tie.Need-returns
+unfolding refusedText
 returns c =
-    let e = sym (c .before .before .before .before .before .before .from-bytes .ensures) ∙ c .before .before .before .before .enum-told .given .1 in
-    (put-as (c .before .before .put-refused .ensures .0) (refused-line (c .before .before .before .before .before .before .before .before .before .args .number) (c .before .before .before .before .before .before .before .before .before .args .message .now) _ e), omega (arith, c .before .before .put-refused .ensures .1))
+    let put = c .before .before in
+    let refused = put .before .before .before in
+    let asked = refused .before .before in
+    let args = asked .before .before .before .args in
+    let e = sym (asked .from-bytes .ensures) ∙ refused .enum-told .given .1 in
+    (put-as (put .put-verdict .ensures .0) (refused-line (args .number) (args .message .now) _ e), omega (arith, put .put-verdict .ensures .1))
 
-put-parts-requires : tie.Need-put-parts-requires
-put-parts-requires c κs = (sym (c .before .before .before .before .before .before .before .before .from-bytes .ensures) ∙ c .before .before .before .before .before .before .packet .given .1, omega (arith, c .before .before .before .put-head .ensures .1, c .before .before .before .put-head .kept, c .before .before .before .before .before .before .before .before .before .before .before .pre))
+parts-fit : tie.Need-put-parts-requires
+parts-fit c κs =
+    let head = c .before .before .before in
+    let taken = head .before .before .before in
+    let asked = taken .before .before in
+    (sym (asked .from-bytes .ensures) ∙ taken .packet .given .1, omega (arith, head .put-head .ensures .1, head .put-head .kept))
 
 returns-2 : tie.Need-returns-2
 returns-2 c =
-    let x = read-tells (c .before .before .before .before .before .before .before .before .before .before .before .before .before .before .args .message .now) (c .before .before .before .before .before .before .before .before .before .packet .given .0 .0) (sym (c .before .before .before .before .before .before .before .before .before .before .before .from-bytes .ensures) ∙ c .before .before .before .before .before .before .before .before .before .packet .given .1) in
-    let p = put-then (c .before .before .before .before .before .before .put-head .ensures .0) (c .before .before .put-parts .ensures .0 (x .0) (x .1 .means-it)) in
-    (put-as p (message-line (c .before .before .before .before .before .before .before .before .before .before .before .before .before .before .args .number) (c .before .before .before .before .before .before .before .before .before .before .before .before .before .before .args .message .now) (c .before .before .before .before .before .before .before .before .before .packet .given .0 .0) (x .0) (x .1)), omega (arith, c .before .before .before .before .before .before .put-head .ensures .1, c .before .before .put-parts .ensures .1))
+    let parts = c .before .before in
+    let head = parts .before .before .before .before in
+    let taken = head .before .before .before in
+    let asked = taken .before .before in
+    let args = asked .before .before .before .args in
+    let packet = taken .packet .given .0 .0 in
+    let x = read-tells (args .message .now) packet (sym (asked .from-bytes .ensures) ∙ taken .packet .given .1) in
+    let p = put-then (head .put-head .ensures .0) (parts .put-parts .ensures .0 (x .0) (x .1 .means-it)) in (
+      put-as p (message-line (args .number) (args .message .now) packet (x .0) (x .1)),
+      omega (arith, head .put-head .ensures .1, parts .put-parts .ensures .1),
+    )
 
 pub put-message-spec : {M : Type 1} → statement M
 put-message-spec =
@@ -27,10 +45,11 @@ put-message-spec =
     (λ c κs. search needs)
     (λ c. search needs)
     (λ c. search needs)
+    (λ c. search needs)
     (λ c κs. search needs)
     (λ c. search needs)
     returns
     (λ c κs. search needs)
-    put-parts-requires
+    parts-fit
     (λ c. search needs)
     returns-2)

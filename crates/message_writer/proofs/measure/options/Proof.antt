@@ -1,4 +1,3 @@
-use mathlib.Core.Path.{sym, _∙_}
 use Rattle.message_writer.proofs.Measures.{Measured, measured-start, uncounted, measured-small, measured-next, measured-over, measured-done}
 use lib.ListN.{length}
 use Prim.Native.Nat.{_-_}
@@ -25,7 +24,7 @@ returns-2 c =
     let numbered = sized .before .before in
     let in-loop = numbered .before .before in
     measured-small (in-loop .before .loop .inv) (in-loop .loop-test .taken) (numbered .usize-of-u32 .ensures .0) (sized .usize-of-u322 .ensures .0)
-    (sym (fitted .option .ensures) ∙ c .enum-told .given .1)
+    (fitted .option .ensures) (c .enum-told .given .1)
 
 loop-again : tie.Need-loop-again Inv-loop μ-loop
 loop-again c =
@@ -33,8 +32,8 @@ loop-again c =
     let sized = fitted .before in
     let numbered = sized .before .before in
     let in-loop = numbered .before .before in
-    measured-next (in-loop .before .loop .inv) (in-loop .loop-test .taken) (numbered .usize-of-u32 .ensures .0) (sized .usize-of-u322 .ensures .0) _
-    (sym (fitted .option .ensures) ∙ c .before .after .given .1)
+    measured-next (in-loop .before .loop .inv) (in-loop .loop-test .taken) (numbered .usize-of-u32 .ensures .0) (sized .usize-of-u322 .ensures .0)
+    (fitted .option .ensures) _ (c .before .after .given .1)
 
 returns-3 : tie.Need-returns-3 Inv-loop μ-loop
 returns-3 c = measured-over (c .before .before .loop .inv) (c .before .loop-test .left) (c .if2 .taken)

@@ -37,7 +37,7 @@ returns-5 : tie.Need-returns-5
 returns-5 c = λ id h.
     let measured = c .before .before in
     let start = measured .before .before .before .before .before .before .before .before .before .before .before in
-    options-small (start .args .room) (asked start id) (omega arith) (sym (measured .options .ensures) ∙ c .enum-told .given .1)
+    options-small (start .args .room) (asked start id) (omega arith) (measured .options .ensures) (c .enum-told .given .1)
 
 returns-6 : tie.Need-returns-6
 returns-6 c = λ id h.
@@ -47,7 +47,7 @@ returns-6 c = λ id h.
     let typed = short .before in
     let start = typed .before .before .before .before .before .before in
     c .payload-fits .ensures
-    ∙ options-left (start .args .room) (asked start id) (omega arith) _ (sym (measured .options .ensures) ∙ c .before .before .left .given .1)
+    ∙ options-left (start .args .room) (asked start id) (omega arith) (measured .options .ensures) _ (c .before .before .left .given .1)
     (typed .if1 .left) (omega arith) h (short .if2 .left) (sym (not-empty .before .empty-ok .ensures) ∙ not-false _ (not-empty .if3 .left))
 
 pub takes-spec : {M : Type 1} → statement M

@@ -39,14 +39,5 @@ pub found-in-spec : {M : Type 1} → statement M
 found-in-spec =
     tie.close
     (tie.spec
-    (λ c. search needs)
-    (λ c κs. search needs)
-    (λ c. search needs)
-    (λ c κs. search needs)
-    (λ c. search needs)
-    (λ c κs. search needs)
-    there
-    (λ c κs. search needs)
-    nothing
-    message
-    not-there)
+    (λ c. search needs) (λ c κs. search needs) (λ c. search needs) (λ c κs. search needs) (λ c. search needs) (λ c κs. search needs) there
+    (λ c κs. search needs) nothing message not-there)
