@@ -2,7 +2,6 @@
 use Prim.Native.Nat.{ℕ, _-_}
 use mathlib.Core.Bool.{Bool, true, false, cond, _&&_}
 use mathlib.Core.List.{List, [], _∷_, _++_}
-use mathlib.Core.Path.{_≡_}
 use lib.ListN.{length, take, replicate}
 use lib.Dec.{leb, eqb}
 use Rattle.digest.specs.Digest.{digestOf, folded}
@@ -35,10 +34,6 @@ storedOk k = leb 1 (k .len) && leb (k .len) 64
 
 unfoldable pub stored : Name → Key
 stored k = record { bytes = k ++ replicate (64 - length k) 0; len = length k }
-
--- A stored key with zeros after its bytes, as `stored` makes it.
-abbrev pub Padded : Key → Type 0
-Padded k = stored (keyOf k) ≡ k
 
 -- The key of a free entry: zeros.
 abbrev pub noKey : Key
