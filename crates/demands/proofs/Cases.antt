@@ -1,5 +1,6 @@
 -- Document 01's cases 1 to 12, and those of strict mode, hold of the definitions, by computation. Assumes nothing.
 use Prim.Native.Nat.{ℕ, zero, suc}
+use mathlib.Core.Bool.{Bool}
 use mathlib.Core.Path.{refl}
 use mathlib.Core.List.{List, [], _∷_}
 use lib.ListN.{take, drop}
@@ -13,10 +14,10 @@ halves zero l front behind = behind
 halves (suc n) [] front behind = tt
 halves (suc n) (r ∷ l) front behind = (front .0, halves n l (front .1) behind)
 
-pub cases-hold : AllSay cases
+pub cases-hold : (strict : Bool) → AllSay (cases strict)
 unfolding steps
-cases-hold =
-    halves 15 cases
+cases-hold strict =
+    halves 15 (cases strict)
     (refl, (refl, (refl, (refl, (refl, (refl, (refl, (refl, (refl, (refl, (refl, (refl, (refl, (refl, (refl, tt)))))))))))))))
     (refl, (refl, (refl, (refl, (refl, (refl, (refl, (refl, (refl, (refl, (refl, (refl, (refl, (refl, tt))))))))))))))
 

@@ -25,12 +25,12 @@ unfolding memory.patch memory.part memory.within memory.pieceOf memory.putPiece 
 memories = tt
 
 unfoldable taking : Unit {0}
-unfolding values memories block1.badForm block1.notNext block1.lengthMet block1.taken block1.onSplice block1.block1Given block2.served block2.onward
+unfolding values memories block1.badForm block1.notNext block1.lengthMet block1.taken block2.served block2.onward
 taking = tt
 
 -- the steps of both calls
 unfoldable pub steps : Unit {0}
-unfolding taking step.onNegotiated step.stepRequest reply.chunked reply.onReply reply.stepResponse
+unfolding taking step.block1Given step.onNegotiated step.stepRequest reply.chunked reply.onReply reply.stepResponse
 steps = tt
 
 unfoldable pub entry : Unit {0}

@@ -141,7 +141,7 @@ abbrev marked : ℕ → Sent
 marked n = sent 5 (0x18 ∷ []) (replicate n 2)
 
 passes-five : (n : ℕ) → withinLimits (config true) fresh (callOn key (marked n)) ≡ true
-    → negotiated (Given (block 1 true 0)) 20 (length (marked n .message .payload)) 64 ≡ Block (block 1 false 0)
+    → negotiated (config true) (Given (block 1 true 0)) 20 (length (marked n .message .payload)) ≡ Block (block 1 false 0)
     → PassesFive (config true) fresh (callOn key (marked n)) (marked n .message) (block 1 true 0)
 unfolding calls
 passes-five n ok agreed =

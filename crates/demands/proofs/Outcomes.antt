@@ -33,8 +33,9 @@ use Rattle.block_state.specs.Message.{Request, Response, request, response}
 use Rattle.block_state.specs.State.{assembly, keptWhile, caching, recordedBlock, withRecorded}
 use Rattle.block_state.specs.Step.{Left, left, bytesFrom}
 use Rattle.request_step.specs.Block2 as block2
-use Rattle.request_step.specs.Block1.{taken, onSplice, block1Given, badForm, notNext, lengthMet}
-use Rattle.request_step.specs.Step.{onNegotiated, stepRequest}
+use Rattle.request_step.specs.declared.Taken.{Taken}
+use Rattle.request_step.specs.Block1.{badForm, notNext, lengthMet, takenAs, taken, pieceTaken}
+use Rattle.request_step.specs.Step.{onTaken, block1Given, onNegotiated, stepRequest}
 use Rattle.response_step.specs.Step.{chunked, onReply, stepResponse}
 use Rattle.entries.specs.declared.Entry.{Entry}
 use Rattle.places.specs.Places.{place, opened}
@@ -67,7 +68,7 @@ module _ (c : Config) (home away : ℕ) (s : BlockState) (u : List ℕ) (r : Req
 
   -- block b was taken, and made a body of n bytes: it is the request's, a reply was agreed on, and strict mode's two tests let it pass
   pub record TookBlock (b reply : BlockValue) (n : ℕ) : Type 0 where
-    pub given : requestBlock (r .block1) ≡ Given b
+    pub given : requestBlock c (r .block1) ≡ Given b
     pub reached : requestAgrees c r ≡ agreed.Block reply
     pub form : (c .strict && badForm b (length (r .payload))) ≡ false
     pub next : (c .strict && notNext (s .assembled) b) ≡ false
@@ -82,9 +83,9 @@ module _ (c : Config) (home away : ℕ) (s : BlockState) (u : List ℕ) (r : Req
   -- why the step is refused with nothing changed
   pub data Why : ℕ → Type 0 where
     unagreed : (n : ℕ) → requestAgrees c r ≡ agreed.Refused n → Why n
-    badly : (b reply : BlockValue) → requestBlock (r .block1) ≡ Given b → requestAgrees c r ≡ agreed.Block reply
+    badly : (b reply : BlockValue) → requestBlock c (r .block1) ≡ Given b → requestAgrees c r ≡ agreed.Block reply
         → (c .strict && badForm b (length (r .payload))) ≡ true → Why 10
-    astray : (b reply : BlockValue) → requestBlock (r .block1) ≡ Given b → requestAgrees c r ≡ agreed.Block reply
+    astray : (b reply : BlockValue) → requestBlock c (r .block1) ≡ Given b → requestAgrees c r ≡ agreed.Block reply
         → (c .strict && badForm b (length (r .payload))) ≡ false → (c .strict && notNext (s .assembled) b) ≡ true → Why 9
     unspliced : (n : ℕ) → (n ≡ 6) ⊎ (n ≡ 7) → Why n
 
@@ -98,20 +99,25 @@ module _ (c : Config) (home away : ℕ) (s : BlockState) (u : List ℕ) (r : Req
     onwards : (t : BlockState) (v : List ℕ) (block1 : MaybeBlock) (a : Answer) (z : Assembled) → Block1 block1 a z v → t .assembled ≡ z
         → t .cached ≡ s .cached → Outcome (left t v a)
     serves : (t : BlockState) (v : List ℕ) (block1 : MaybeBlock) (a : Answer) (z : Assembled) (x y : BlockValue) (from to : ℕ) → Block1 block1 a z v
-        → t .assembled ≡ z → s .cached .held ≡ true → requestBlock (r .block2) ≡ Given x → chunkOf x (s .cached .payload) ≡ chunk.Bytes y from to
+        → t .assembled ≡ z → s .cached .held ≡ true → requestBlock c (r .block2) ≡ Given x → chunkOf x (s .cached .payload) ≡ chunk.Bytes y from to
         → t .cached ≡ keptWhile (y .more) (s .cached)
         → Outcome
-        (left t v (Served block1 y (bytesFrom away (s .cached .head)) (record { from = away + s .cached .head + from; to = away + s .cached .head + to })))
+        (left t v (Served (record {
+          block1 = block1;
+          block2 = y;
+          head = bytesFrom away (s .cached .head);
+          chunk = record { from = away + s .cached .head + from; to = away + s .cached .head + to };
+        })))
 
   module _ (t : BlockState) (v : List ℕ) (block1 : MaybeBlock) (a : Answer) (z : Assembled) (k : Block1 block1 a z v) (left-so : t .assembled ≡ z)
       (e : t .cached ≡ s .cached) where
-    of-chunk : s .cached .held ≡ true → (x : BlockValue) → requestBlock (r .block2) ≡ Given x → (ch : Chunk) → chunkOf x (s .cached .payload) ≡ ch
+    of-chunk : s .cached .held ≡ true → (x : BlockValue) → requestBlock c (r .block2) ≡ Given x → (ch : Chunk) → chunkOf x (s .cached .payload) ≡ ch
         → Outcome (block2.served away (withRecorded t (Given x)) v block1 ch)
     unfolding block2.served
     of-chunk held x asks (chunk.Refused n) is = past _ v block1 a z x n k left-so e is
     of-chunk held x asks (chunk.Bytes y from to) is = rw e (serves _ v block1 a z x y from to k left-so held asks is refl)
 
-    of-block2 : (asked : MaybeBlock) → requestBlock (r .block2) ≡ asked → Outcome (block2.onward away t v asked block1 a)
+    of-block2 : (asked : MaybeBlock) → requestBlock c (r .block2) ≡ asked → Outcome (block2.onward away t v asked block1 a)
     unfolding block2.onward
     of-block2 Absent asks = onwards _ v block1 a z k left-so e
     of-block2 (Given x) asks =
@@ -119,39 +125,41 @@ module _ (c : Config) (home away : ℕ) (s : BlockState) (u : List ℕ) (r : Req
         on-test Outcome (t .cached .held) (λ held. of-chunk (sym (ap (λ (y : Cached). y .held) e) ∙ held) x asks (chunkOf x (t .cached .payload)) same)
         (λ _. onwards _ v block1 a z k left-so e)
 
+  -- a block that was agreed on, by what taking it came to
+  abbrev Taking : BlockValue → BlockValue → Taken → Type 0
+  Taking b reply t =
+      Outcome (onTaken home away s (pieceTaken c (s .assembled) u b (r .payload) t) (requestBlock c (r .block2)) (b .«size_exponent») reply t)
+
   of-splice : (b reply : BlockValue)
       → ((n : ℕ) → n ≡ splicedLength (met b) (blockStart b) (blockSize b) (length (r .payload)) → n ≤ c .upload → TookBlock b reply n)
-      → (sp : Splice) → Sized (c .upload) (met b) (blockStart b) (blockSize b) (length (r .payload)) sp
-      → Outcome (onSplice home away s u (requestBlock (r .block2)) (r .payload) b reply (met b) sp)
-  unfolding onSplice taken
-  of-splice b reply k (splice.Refused n) is = refused n (unspliced n is)
-  of-splice b reply k (splice.Body n) is =
-      let it : TookBlock b reply n = k n (is .0) (is .1) in
-      on-test Outcome (b .more) (λ _. continued _ b reply n it refl refl)
-      (λ _. of-block2 _ _ (Given reply) _ _ (took b reply n it) refl refl (requestBlock (r .block2)) refl)
+      → (sp : Splice) → Sized (c .upload) (met b) (blockStart b) (blockSize b) (length (r .payload)) sp → (more : Bool) → Taking b reply (takenAs more sp)
+  of-splice b reply k (splice.Refused n) is more = refused n (unspliced n is)
+  of-splice b reply k (splice.Body n) is true = continued _ b reply n (k n (is .0) (is .1)) refl refl
+  of-splice b reply k (splice.Body n) is false =
+      of-block2 _ _ (Given reply) _ _ (took b reply n (k n (is .0) (is .1))) refl refl (requestBlock c (r .block2)) refl
 
-  of-negotiated : (block1 : MaybeBlock) → requestBlock (r .block1) ≡ block1 → (n : Negotiated) → requestAgrees c r ≡ n
-      → Outcome (onNegotiated c home away s u (requestBlock (r .block2)) (r .payload) block1 n)
-  unfolding onNegotiated block1Given
+  of-negotiated : (block1 : MaybeBlock) → requestBlock c (r .block1) ≡ block1 → (n : Negotiated) → requestAgrees c r ≡ n
+      → Outcome (onNegotiated c home away s u (requestBlock c (r .block2)) (r .payload) block1 n)
+  unfolding onNegotiated block1Given taken
   of-negotiated block1 given (agreed.Refused n) e = refused n (unagreed n e)
-  of-negotiated block1 given agreed.NoBlock e = of-block2 s u Absent Pass (s .assembled) none refl refl (requestBlock (r .block2)) refl
+  of-negotiated block1 given agreed.NoBlock e = of-block2 s u Absent Pass (s .assembled) none refl refl (requestBlock c (r .block2)) refl
   of-negotiated Absent given (agreed.Block reply) e = tooLarge reply e
   of-negotiated (Given b) given (agreed.Block reply) e =
-      on-test Outcome (c .strict && badForm b (length (r .payload))) (λ y. refused 10 (badly b reply given e y))
-      (λ form. on-test Outcome (c .strict && notNext (s .assembled) b) (λ y. refused 9 (astray b reply given e form y))
+      on-test (Taking b reply) (c .strict && badForm b (length (r .payload))) (λ y. refused 10 (badly b reply given e y))
+      (λ form. on-test (Taking b reply) (c .strict && notNext (s .assembled) b) (λ y. refused 9 (astray b reply given e form y))
       (λ next. of-splice b reply (λ n long fits. record { given = given; reached = e; form = form; next = next; long = long; fits = fits })
-      (spliceOf (c .upload) (met b) (blockStart b) (blockSize b) (length (r .payload))) (sized _ _ _ _ _)))
+      (spliceOf (c .upload) (met b) (blockStart b) (blockSize b) (length (r .payload))) (sized _ _ _ _ _) (b .more)))
 
   pub outcome : Outcome (stepRequest c home away s u r)
   unfolding stepRequest
-  outcome = of-negotiated (requestBlock (r .block1)) refl (requestAgrees c r) refl
+  outcome = of-negotiated (requestBlock c (r .block1)) refl (requestAgrees c r) refl
 
 -- ---- a response's step: nothing is stored, or First is answered
 
 module _ (c : Config) (s : BlockState) (d : List ℕ) (r : Response) where
   -- what it negotiates, and the chunk that it cuts then
   abbrev pub responds : Negotiated
-  responds = negotiated (recordedBlock (s .recorded)) (r .bare) (length (r .payload)) (c .limit)
+  responds = negotiated c (recordedBlock (s .recorded)) (r .bare) (length (r .payload))
 
   abbrev pub Cut : BlockValue → ℕ → ℕ → Type 0
   Cut y from to = (b : BlockValue) × (responds ≡ agreed.Block b) × (chunkOf b (length (r .payload)) ≡ chunk.Bytes y from to)

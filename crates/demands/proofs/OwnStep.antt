@@ -1,12 +1,11 @@
 -- The client's next block at its entry: what one step leaves and answers, exactly, for every size and in either mode. It speaks of offsets: where the block starts,
 -- and how much is assembled. Assumes nothing.
-use Prim.Native.Nat.{ℕ, _+_, _-_, _≤_, _<_, min}
+use Prim.Native.Nat.{ℕ, _+_, _≤_}
 use mathlib.Core.Bool.{Bool, true, false, _&&_}
 use mathlib.Core.Path.{_≡_, refl, sym, _∙_, ap}
 use mathlib.Core.Logic.{inl, inr}
 use mathlib.Core.List.{List, [], _++_}
 use native.Mathlib.Omega.{arith}
-use native.Mathlib.Nat.{mul-div-cancel}
 use lib.ListN.{length, take, length-append}
 use borrow.Author.Tests.{le-ltb, ne-eqb}
 use Rattle.pieces.specs.Memory.{patch, part}
@@ -17,11 +16,10 @@ use Rattle.splicing.proofs.Splicing.{spliced-next}
 use Rattle.splicing.proofs.Splicing as splicing
 use Rattle.block_value.specs.Value.{blockSize, blockStart}
 use Rattle.block_value.specs.declared.BlockValue.{BlockValue}
-use Rattle.block_value.proofs.Laws.{size-least, size-most, exponent-size, made-well}
-use Rattle.negotiation.specs.Negotiation.{requestBlock, replyOf, negotiated}
+use Rattle.block_value.proofs.Laws.{size-least, size-most}
+use Rattle.negotiation.specs.Negotiation.{requestBlock}
 use Rattle.negotiation.specs.declared.MaybeBlock.the-variants.{Absent, Given}
 use Rattle.negotiation.specs.declared.Negotiated.the-variants.{Block}
-use Rattle.negotiation.proofs.Laws.{with-room, given-at, reply-made}
 use Rattle.config.specs.declared.Config.{Config}
 use Rattle.block_state.specs.declared.Assembled.{Assembled}
 use Rattle.block_state.specs.declared.BlockState.{BlockState}
@@ -36,6 +34,7 @@ use Rattle.demands.specs.Agreed.{requestAgrees}
 use Rattle.demands.specs.Strict.{BadlyFormed}
 use Rattle.demands.proofs.Checks.{and-none, bad-not, NextAt, next-passes, first-passes, first-starts, meets-all, meets-afresh}
 use Rattle.demands.proofs.Step.{step-more, step-last}
+use Rattle.demands.proofs.Pairing.{pairing}
 
 -- ---- a block as the client sends it
 
@@ -43,26 +42,12 @@ use Rattle.demands.proofs.Step.{step-more, step-last}
 abbrev pub unmarked : BlockValue → BlockValue
 unmarked b = block (b .num) false (b .«size_exponent»)
 
--- a block that is left room comes out of the negotiation as it was asked, with no more, since its payload is no longer than its size
-room-agreed : (b : BlockValue) (bare p t : ℕ) → b .num ≤ 65535 → b .«size_exponent» ≤ 7 → p ≤ blockSize b → bare + 12 + blockSize b ≤ t
-    → negotiated (Given b) bare p t ≡ Block (unmarked b)
-room-agreed b bare p t hn hx hp h =
-    let size : ℕ = blockSize b in
-    let pos : 0 < size = omega (arith, size-least (b .«size_exponent»)) in
-    let nz : size ≡ 0 → ⊥ = λ e. omega arith in
-    let g : min size (t - bare - 12) ≡ size = omega arith in
-    with-room (Given b) bare p t (t - bare - 12) (omega arith) refl
-    ∙ given-at (Given b) p (t - bare - 12) b refl
-    ∙ rw g (reply-made (blockStart b) size p nz
-    ∙ rw (mul-div-cancel (b .num) pos, le-ltb (blockStart b + size) p (omega arith))
-    (ap replyOf (made-well (b .num) false size nz (b .«size_exponent») (sym (exponent-size (b .«size_exponent») hx)) hx hn)))
-
 pub record OneBlock (c : Config) (b : BlockValue) (r : Request) : Type 0 where
   pub size : b .«size_exponent» ≤ 6
   pub count : b .num ≤ 4095
-  pub numbered : requestBlock (r .block1) ≡ Given b
+  pub numbered : requestBlock c (r .block1) ≡ Given b
   pub full : Fills (b .more) (length (r .payload)) (blockSize b)
-  pub alone : requestBlock (r .block2) ≡ Absent
+  pub alone : requestBlock c (r .block2) ≡ Absent
   pub room : r .bare + 12 + blockSize b ≤ c .limit
 
 module _ (c : Config) (b : BlockValue) (r : Request) (one : OneBlock c b r) where
@@ -81,10 +66,13 @@ module _ (c : Config) (b : BlockValue) (r : Request) (one : OneBlock c b r) wher
       well (inr (inl long)) = omega (arith, fills-most)
       well (inr (inr short)) = short .1 (rw (short .0) at (one .full))
 
+  -- a block that is left room comes out of the negotiation as it was asked, with no more, since its payload is no longer than its size
   pub agreed : requestAgrees c r ≡ Block (unmarked b)
   agreed =
+      let p : ℕ = length (r .payload) in
       rw (one .numbered)
-      (room-agreed b (r .bare) (length (r .payload)) (c .limit) (omega (arith, one .count)) (omega (arith, one .size)) fills-most (one .room))
+      (pairing .asked c b (r .bare) p (one .room) (omega (arith, one .count)) (omega (arith, one .size))
+      ∙ rw (le-ltb (blockStart b + blockSize b) p (omega (arith, fills-most))))
 
 -- ---- an upload under way
 

@@ -2,7 +2,6 @@
 use Prim.Native.Nat.{ℕ, _+_, _-_, _*_, _≤_, _<_}
 use mathlib.Core.Bool.{Bool, true, false, cond, false≢true}
 use mathlib.Core.Path.{_≡_, refl, sym, ap, _∙_, subst}
-use mathlib.Core.Logic.{_≢_}
 use mathlib.Core.List.{List, [], _∷_, _++_}
 use mathlib.Core.Option.{Option, none, some}
 use native.Mathlib.Omega.{arith}
@@ -24,6 +23,7 @@ use Rattle.config.specs.declared.Config.{Config}
 use Rattle.block_state.specs.declared.Cached.{Cached}
 use Rattle.block_state.specs.declared.BlockState.{BlockState}
 use Rattle.block_state.specs.declared.Part.{Part}
+use Rattle.block_state.specs.declared.Served as served
 use Rattle.block_state.specs.declared.Answer.{Answer}
 use Rattle.block_state.specs.declared.Answer.the-variants.{Continue, TooLarge, Handed, Pass, Served, Plain, Whole, First, Refused}
 use Rattle.block_state.specs.Message.{Request, Response, What, request, response}
@@ -78,13 +78,13 @@ From s away block2 (Continue b) = Unit {0}
 From s away block2 (TooLarge b) = Unit {0}
 From s away block2 (Handed b body) = Unit {0}
 From s away block2 Pass = Unit {0}
-From s away block2 (Served block1 b head part) = ServedFrom (s .cached) away block2 b head part
+From s away block2 (Served x) = ServedFrom (s .cached) away block2 (x .block2) (x .head) (x .chunk)
 From s away block2 Plain = Unit {0}
 From s away block2 (Whole b part) = Unit {0}
 From s away block2 (First b part) = Unit {0}
 From s away block2 (Refused n) = Unit {0}
 
-from-request : (c : Config) (home away : ℕ) (s : BlockState) (u : List ℕ) (r : Request) (g : Left) → Outcome c home away s u r g → From s away (requestBlock (r .block2)) (g .answer)
+from-request : (c : Config) (home away : ℕ) (s : BlockState) (u : List ℕ) (r : Request) (g : Left) → Outcome c home away s u r g → From s away (requestBlock c (r .block2)) (g .answer)
 from-request c home away s u r g (refused n why) = tt
 from-request c home away s u r g (past t v block1 a z x n k y e is) = tt
 from-request c home away s u r g (tooLarge reply e) = tt
@@ -240,48 +240,56 @@ module _ (m head payload : List ℕ) (u i : ℕ) (inside : i * u + u ≤ length 
       let cut = drop-part m (i * u) (length (head ++ payload)) (length head) (omega (arith, both-length)) (omega arith) in
       sym (rw left at cut) ∙ ap (drop (length head)) whole ∙ drop-at head payload (length head) refl
 
-served-page : (c : Config) (w : World) (q : Call) (p : Option Page) (r : Request) (block1 : MaybeBlock) (b : BlockValue) (head part : Part)
-    → WorldFits c w → AllPaged c w (q .key) p → q .what ≡ request r → call c w q .answer ≡ Served block1 b head part
-    → ShowsPage r b p (servedHead (call c w q .answer) (call c w q .world .response)) (servedChunk (call c w q .answer) (call c w q .world .response))
-unfolding callAt
-served-page c w q p r block1 b head part f known er =
-    call-cases (λ (d : Done). d .answer ≡ Served block1 b head part
-    → ShowsPage r b p (servedHead (d .answer) (d .world .response)) (servedChunk (d .answer) (d .world .response))) c w q
-    (λ n e. let z : _≡_ {A = ℕ} 0 1 = cc in absurd (omega arith))
-    (λ named ok later i16.
-    rw er (λ e.
-    let i : ℕ = placeOf c w q in
-    let s : BlockState = openedOf c w q .state in
+-- what is served of a page that is cached at i shows it
+shows-page : (c : Config) (mem : List ℕ) (i : ℕ) (cached : Cached) (p : Option Page) (r : Request) (b : BlockValue) (head part : Part)
+    → i * c .response + c .response ≤ length mem → ServedFrom cached (i * c .response) (requestBlock c (r .block2)) b head part → Caches c mem i cached p
+    → ShowsPage c r b p (partOf mem head) (partOf mem part)
+shows-page c mem i cached p r b head part inside g h =
     let away : ℕ = i * c .response in
-    let inside : i * c .response + c .response ≤ length (w .response) = omega (arith, f .response, piece-order i 16 (c .response) i16) in
-    let g : ServedFrom (s .cached) away (requestBlock (r .block2)) b head part =
-    subst (From s away (requestBlock (r .block2))) e
-    (from-request c (i * c .upload) away s (pieceOf (c .upload) i (w .upload)) r _ (outcome c (i * c .upload) away s (pieceOf (c .upload) i (w .upload)) r)) in
-    let h : Caches c (w .response) i (s .cached) p = opened-paged c w q (q .key) p f known i16 (same-refl (q .key)) (g .held) in
     let n : length (h .page .head ++ h .page .payload) ≡ length (h .page .head) + length (h .page .payload) = length-append (h .page .head) (h .page .payload) in
-    let shows-head : partOf (w .response) head ≡ h .page .head =
-    ap (partOf (w .response)) (g .its-head) ∙ ap (λ (l : ℕ). partOf (w .response) (bytesFrom away l)) (h .head)
-    ∙ head-there (w .response) (h .page .head) (h .page .payload) (c .response) i inside (h .room) (h .bytes) in
     let shows-part =
-    ap (partOf (w .response)) (g .its-part)
-    ∙ served-shows (w .response) (away + s .cached .head) (s .cached .payload) (g .asked) b (g .from) (g .to) (g .bytes) (omega (arith, h .head, h .payload, h .room)) in
-    let there : bytesIn (w .response) (away + s .cached .head) (s .cached .payload) ≡ h .page .payload =
-    rw (h .head, h .payload) (payload-there (w .response) (h .page .head) (h .page .payload) (c .response) i inside (h .room) (h .bytes)) in
+    ap (partOf mem) (g .its-part)
+    ∙ served-shows mem (away + cached .head) (cached .payload) (g .asked) b (g .from) (g .to) (g .bytes) (omega (arith, h .head, h .payload, h .room)) in
+    let there : bytesIn mem (away + cached .head) (cached .payload) ≡ h .page .payload =
+    rw (h .head, h .payload) (payload-there mem (h .page .head) (h .page .payload) (c .response) i inside (h .room) (h .bytes)) in
     record {
       page = h .page;
       last = h .is;
       asked = g .asked;
       asks = g .asks;
-      value = chunk-value (g .asked) (s .cached .payload) b (g .from) (g .to) (g .bytes) ∙ ap (chunkBlock (g .asked)) (h .payload);
-      itsHead = ap (λ (a : Answer). servedHead a (w .response)) e ∙ shows-head;
-      itsChunk = ap (λ (a : Answer). servedChunk a (w .response)) e ∙ (rw (there, h .payload) at shows-part);
-    }))
+      value = chunk-value (g .asked) (cached .payload) b (g .from) (g .to) (g .bytes) ∙ ap (chunkBlock (g .asked)) (h .payload);
+      itsHead =
+          ap (partOf mem) (g .its-head) ∙ ap (λ (l : ℕ). partOf mem (bytesFrom away l)) (h .head)
+          ∙ head-there mem (h .page .head) (h .page .payload) (c .response) i inside (h .room) (h .bytes);
+      itsChunk = rw (there, h .payload) at shows-part;
+    }
+
+served-page : (c : Config) (w : World) (q : Call) (p : Option Page) (r : Request) (x : served.Served)
+    → WorldFits c w → AllPaged c w (q .key) p → q .what ≡ request r → call c w q .answer ≡ Served x
+    → ShowsPage c r (x .block2) p (servedHead (call c w q .answer) (call c w q .world .response)) (servedChunk (call c w q .answer) (call c w q .world .response))
+unfolding callAt
+served-page c w q p r x f known er =
+    call-cases (λ (d : Done). d .answer ≡ Served x
+    → ShowsPage c r (x .block2) p (servedHead (d .answer) (d .world .response)) (servedChunk (d .answer) (d .world .response))) c w q
+    (λ n e. let z : _≡_ {A = ℕ} 0 1 = cc in absurd (omega arith))
+    (λ named ok later i16.
+    rw er (λ e.
+    let i : ℕ = placeOf c w q in
+    let s : BlockState = openedOf c w q .state in
+    let u : List ℕ = pieceOf (c .upload) i (w .upload) in
+    let away : ℕ = i * c .response in
+    let inside : i * c .response + c .response ≤ length (w .response) = omega (arith, f .response, piece-order i 16 (c .response) i16) in
+    let g : ServedFrom (s .cached) away (requestBlock c (r .block2)) (x .block2) (x .head) (x .chunk) =
+    subst (From s away (requestBlock c (r .block2))) e (from-request c (i * c .upload) away s u r _ (outcome c (i * c .upload) away s u r)) in
+    subst (λ (a : Answer). ShowsPage c r (x .block2) p (servedHead a (w .response)) (servedChunk a (w .response))) (sym e)
+    (shows-page c (w .response) i (s .cached) p r (x .block2) (x .head) (x .chunk) inside g
+    (opened-paged c w q (q .key) p f known i16 (same-refl (q .key)) (g .held)))))
 
 -- A CHUNK SERVED IS THE PAGE'S
 pub serves-the-page : ServesThePage call
 unfolding ServesThePage
-serves-the-page c w calls q r block1 b head part fresh ab er e =
+serves-the-page c w calls q r x fresh ab er e =
     let f : WorldFits c w = fresh-fits c w fresh in
     let known : AllPaged c w (q .key) none = λ i i16 h held. absurd (false≢true (rw (fresh-entry w (fresh .table) i i16) at held)) in
-    served-page c (after call c w calls) q (lastStored call c w (q .key) none calls) r block1 b head part (after-fits c calls w f ab)
+    served-page c (after call c w calls) q (lastStored call c w (q .key) none calls) r x (after-fits c calls w f ab)
     (known-run c (q .key) calls w none f ab known) er e

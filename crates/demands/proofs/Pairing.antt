@@ -1,5 +1,5 @@
 -- EVERY PAIRING OF MESSAGE SIZE AND BLOCK SIZE. Assumes nothing.
-use Prim.Native.Nat.{ℕ, zero, suc, _+_, _-_, _*_, _/_, _^_, _≤_, _<_, min}
+use Prim.Native.Nat.{ℕ, zero, suc, _+_, _*_, _/_, _^_, _≤_, _<_, min}
 use mathlib.Core.Bool.{Bool, true, false}
 use mathlib.Core.Path.{_≡_, refl, sym, _∙_, ap}
 use mathlib.Core.Logic.{_⊎_, inl, inr, ⊎-elim}
@@ -9,6 +9,7 @@ use lib.Dec.{ltb, leb, eqb}
 use lib.Pow.{pow-add, pow-mono}
 use borrow.Author.Tests.{ltb-true, ltb-false, leb-true, leb-false, eqb-true}
 use Rattle.pieces.proofs.Tests.{by-cases, clash-of}
+use Rattle.config.specs.declared.Config.{Config}
 use Rattle.block_value.specs.Value.{largestPower, exponentOf, made, sizeOf, blockSize, blockStart}
 use Rattle.block_value.specs.declared.BlockValue.{BlockValue}
 use Rattle.block_value.proofs.Laws.{size-is, size-least, size-most, exponent-size, made-zero, made-large, made-far, made-well}
@@ -76,70 +77,70 @@ module _ (g : ℕ) (least : 1 ≤ g) where
 
 -- ---- what comes out where a block is needed
 
-module _ (n : ℕ) (more : Bool) (g : ℕ) where
+module _ (c : Config) (n : ℕ) (more : Bool) (g : ℕ) where
   -- the make, by its cases
   data Came : Negotiated → Type 0 where
     refused : (g ≡ 0) ⊎ (4096 ≤ g) ⊎ (65535 < n) → Came (Refused 5)
     block : 1 ≤ g → g < 4096 → n ≤ 65535 → Came (Block (record { num = n; more = more; «size_exponent» = exponentOf g }))
 
-  came : Came (replyOf (made n more g))
+  came : Came (replyOf (made c n more g))
   came =
       by-cases (eqb g 0)
-      (λ y. let e : g ≡ 0 = eqb-true g 0 y in rw (made-zero n more g e) (refused (inl e)))
+      (λ y. let e : g ≡ 0 = eqb-true g 0 y in rw (made-zero c n more g e) (refused (inl e)))
       (λ z.
       let nz : g ≡ 0 → ⊥ = λ e. zero-clash (eqb g 0) z e in
       by-cases (leb 4096 g)
-      (λ y. let b : 4096 ≤ g = leb-true 4096 g y in rw (made-large n more g nz (large g (omega (arith, nz)) b)) (refused (inr (inl b))))
+      (λ y. let b : 4096 ≤ g = leb-true 4096 g y in rw (made-large c n more g nz (large g (omega (arith, nz)) b)) (refused (inr (inl b))))
       (λ o.
       let b : g < 4096 = leb-false 4096 g o in
       let e7 = exponent-7 g (omega (arith, nz)) b in
       by-cases (ltb 65535 n)
-      (λ y. let f : 65535 < n = ltb-true 65535 n y in rw (made-far n more g nz e7 f) (refused (inr (inr f))))
-      (λ u. let f : n ≤ 65535 = ltb-false 65535 n u in rw (made-well n more g nz (exponentOf g) refl e7 f) (block (omega (arith, nz)) b f))))
+      (λ y. let f : 65535 < n = ltb-true 65535 n y in rw (made-far c n more g nz e7 f) (refused (inr (inr f))))
+      (λ u. let f : n ≤ 65535 = ltb-false 65535 n u in rw (made-well c n more g nz (exponentOf g) refl e7 f) (block (omega (arith, nz)) b f))))
     where
       zero-clash : (t : Bool) → eqb g 0 ≡ false → g ≡ 0 → ⊥
       zero-clash t z e = let w : eqb 0 0 ≡ false = rw e at z in absurd (clash-of true refl w)
 
-module _ (b : MaybeBlock) (bare p t : ℕ) where
+module _ (c : Config) (b : MaybeBlock) (bare p : ℕ) where
   abbrev m : ℕ
-  m = roomOf bare t
+  m = roomOf c bare
 
   abbrev g : ℕ
   g = granted b m
 
   -- the negotiation, by its cases
   data Out : Negotiated → Type 0 where
-    four : t < bare + 12 → Out (Refused 4)
-    none : bare + 12 ≤ t → (Needed b p m → ⊥) → Out NoBlock
-    answered : bare + 12 ≤ t → Needed b p m → (y : Negotiated) → Came (numFor b g) (moreFor b p g) g y → Out y
+    four : c .limit < bare + 12 → Out (Refused 4)
+    none : bare + 12 ≤ c .limit → (Needed b p m → ⊥) → Out NoBlock
+    answered : bare + 12 ≤ c .limit → Needed b p m → (y : Negotiated) → Came c (numFor b g) (moreFor b p g) g y → Out y
 
-came-given : (b : BlockValue) (p m : ℕ)
-    → Came (blockStart b / min (blockSize b) m) (ltb (blockStart b + min (blockSize b) m) p) (min (blockSize b) m) (within (Given b) p m)
-came-given b p m =
+came-given : (c : Config) (b : BlockValue) (p m : ℕ)
+    → Came c (blockStart b / min (blockSize b) m) (ltb (blockStart b + min (blockSize b) m) p) (min (blockSize b) m) (within c (Given b) p m)
+came-given c b p m =
     let g : ℕ = min (blockSize b) m in
     by-cases (eqb g 0)
-    (λ y. let e : g ≡ 0 = eqb-true g 0 y in rw (given-at (Given b) p m b refl, reply-none (blockStart b) g p e) (refused (inl e)))
+    (λ y. let e : g ≡ 0 = eqb-true g 0 y in rw (given-at c (Given b) p m b refl, reply-none c (blockStart b) g p e) (refused (inl e)))
     (λ z.
     let nz : g ≡ 0 → ⊥ = λ e. zero-not z e in
-    rw (given-at (Given b) p m b refl, reply-made (blockStart b) g p nz) (came (blockStart b / g) (ltb (blockStart b + g) p) g))
+    rw (given-at c (Given b) p m b refl, reply-made c (blockStart b) g p nz) (came c (blockStart b / g) (ltb (blockStart b + g) p) g))
   where
     zero-not : {g : ℕ} → eqb g 0 ≡ false → g ≡ 0 → ⊥
     zero-not z e = let w : eqb 0 0 ≡ false = rw e at z in absurd (clash-of true refl w)
 
-out : (b : MaybeBlock) (bare p t : ℕ) → Out b bare p t (negotiated b bare p t)
-out b bare p t =
-    by-cases (ltb t (bare + 12))
-    (λ y. let h = ltb-true t (bare + 12) y in rw (no-room b bare p t h) (four h))
-    (λ n. let h = ltb-false t (bare + 12) n in rw (with-room b bare p t (roomOf bare t) h refl) (rest b h))
+out : (c : Config) (b : MaybeBlock) (bare p : ℕ) → Out c b bare p (negotiated c b bare p)
+out c b bare p =
+    by-cases (ltb (c .limit) (bare + 12))
+    (λ y. let h = ltb-true (c .limit) (bare + 12) y in rw (no-room c b bare p h) (four h))
+    (λ n. let h = ltb-false (c .limit) (bare + 12) n in rw (with-room c b bare p (roomOf c bare) h refl) (rest b h))
   where
-    rest : (b : MaybeBlock) → bare + 12 ≤ t → Out b bare p t (within b p (roomOf bare t))
+    rest : (b : MaybeBlock) → bare + 12 ≤ c .limit → Out c b bare p (within c b p (roomOf c bare))
     rest Absent h =
-        by-cases (ltb p (roomOf bare t))
-        (λ y. let l = ltb-true p (roomOf bare t) y in rw (absent-fits Absent p (roomOf bare t) refl l) (none h (λ need. omega arith)))
+        by-cases (ltb p (roomOf c bare))
+        (λ y. let l = ltb-true p (roomOf c bare) y in rw (absent-fits c Absent p (roomOf c bare) refl l) (none h (λ need. omega arith)))
         (λ n.
-        let l = ltb-false p (roomOf bare t) n in
-        rw (absent-large Absent p (roomOf bare t) refl l) (answered h l _ (came 0 true (roomOf bare t))))
-    rest (Given b) h = answered h tt _ (came-given b p (roomOf bare t))
+        let l = ltb-false p (roomOf c bare) n in
+        rw (absent-large c Absent p (roomOf c bare) refl l) (answered h l _ (came c 0 true (roomOf c bare))))
+    rest (Given b) h = answered h tt _ (came-given c b p (roomOf c bare))
 
 -- ---- the laws
 
@@ -158,37 +159,37 @@ none-is-no-block r e = let z : _≡_ {A = ℕ} 0 1 = cc in absurd (omega arith)
 refused-is-no-block : {A : Type 0} (r : BlockValue) (n : ℕ) → Refused n ≡ Block r → A
 refused-is-no-block r n e = let z : _≡_ {A = ℕ} 0 1 = cc in absurd (omega arith)
 
-module _ (b : MaybeBlock) (bare p t : ℕ) where
+module _ (c : Config) (b : MaybeBlock) (bare p : ℕ) where
   abbrev room : ℕ
-  room = roomOf bare t
+  room = roomOf c bare
 
   abbrev gr : ℕ
   gr = granted b room
 
-  four-only : (y : Negotiated) → Out b bare p t y → y ≡ Refused 4 → t < bare + 12
+  four-only : (y : Negotiated) → Out c b bare p y → y ≡ Refused 4 → c .limit < bare + 12
   four-only y (four h) e = h
   four-only y (none h n) e = none-is-not 4 e
   four-only y (answered h n _ (refused u)) e = absurd (five-is-not-four e)
   four-only y (answered h n _ (block l m o)) e = block-is-not _ 4 e
 
-  five-when : bare + 12 ≤ t → Needed b p room → Unmakeable b room → (y : Negotiated) → Out b bare p t y → y ≡ Refused 5
+  five-when : bare + 12 ≤ c .limit → Needed b p room → Unmakeable b room → (y : Negotiated) → Out c b bare p y → y ≡ Refused 5
   five-when h need u y (four l) = absurd (omega arith)
   five-when h need u y (none l n) = absurd (n need)
   five-when h need u y (answered l n _ (refused v)) = refl
-  five-when h need u y (answered l n _ (block a c d)) =
+  five-when h need u y (answered l n _ (block a below d)) =
       absurd (⊎-elim (λ (e : gr ≡ 0). omega arith) (⊎-elim (λ (e : 4096 ≤ gr). omega arith) (λ (e : 65535 < numFor b gr). omega arith)) u)
 
-  five-only : (y : Negotiated) → Out b bare p t y → y ≡ Refused 5 → Unmakeable b room
+  five-only : (y : Negotiated) → Out c b bare p y → y ≡ Refused 5 → Unmakeable b room
   five-only y (four h) e = absurd (five-is-not-four (sym e))
   five-only y (none h n) e = none-is-not 5 e
   five-only y (answered h n _ (refused u)) e = u
   five-only y (answered h n _ (block l m o)) e = block-is-not _ 5 e
 
-  made-when : bare + 12 ≤ t → Needed b p room → (Unmakeable b room → ⊥) → (y : Negotiated) → Out b bare p t y → (r : BlockValue) × (y ≡ Block r)
+  made-when : bare + 12 ≤ c .limit → Needed b p room → (Unmakeable b room → ⊥) → (y : Negotiated) → Out c b bare p y → (r : BlockValue) × (y ≡ Block r)
   made-when h need u y (four l) = absurd (omega arith)
   made-when h need u y (none l n) = absurd (n need)
   made-when h need u y (answered l n _ (refused v)) = absurd (u v)
-  made-when h need u y (answered l n _ (block a c d)) = (_, refl)
+  made-when h need u y (answered l n _ (block a below d)) = (_, refl)
 
   -- a block that comes out
   record Comes (r : BlockValue) : Type 0 where
@@ -197,23 +198,23 @@ module _ (b : MaybeBlock) (bare p t : ℕ) where
     num : r .num ≡ numFor b gr
     more : r .more ≡ moreFor b p gr
     exponent : r .«size_exponent» ≡ exponentOf gr
-    room-left : bare + 12 ≤ t
+    room-left : bare + 12 ≤ c .limit
 
-  comes : (r : BlockValue) (y : Negotiated) → Out b bare p t y → y ≡ Block r → Comes r
+  comes : (r : BlockValue) (y : Negotiated) → Out c b bare p y → y ≡ Block r → Comes r
   comes r y (four l) e = refused-is-no-block r 4 e
   comes r y (none l n) e = none-is-no-block r e
   comes r y (answered l n _ (refused v)) e = refused-is-no-block r 5 e
-  comes r y (answered l n _ (block a c d)) e =
+  comes r y (answered l n _ (block a below d)) e =
       let num : r .num ≡ numFor b gr = cc in
       let more : r .more ≡ moreFor b p gr = cc in
       let exponent : r .«size_exponent» ≡ exponentOf gr = cc in
-      record { least = a; most = c; num = num; more = more; exponent = exponent; room-left = l }
+      record { least = a; most = below; num = num; more = more; exponent = exponent; room-left = l }
 
 -- a negotiation is refused with 4 or 5
-pub refusal-number : (b : MaybeBlock) (bare p t n : ℕ) → negotiated b bare p t ≡ Refused n → (n ≡ 4) ⊎ (n ≡ 5)
-refusal-number b bare p t n e = of _ (out b bare p t) e
+pub refusal-number : (c : Config) (b : MaybeBlock) (bare p n : ℕ) → negotiated c b bare p ≡ Refused n → (n ≡ 4) ⊎ (n ≡ 5)
+refusal-number c b bare p n e = of _ (out c b bare p) e
   where
-    of : (y : Negotiated) → Out b bare p t y → y ≡ Refused n → (n ≡ 4) ⊎ (n ≡ 5)
+    of : (y : Negotiated) → Out c b bare p y → y ≡ Refused n → (n ≡ 4) ⊎ (n ≡ 5)
     of y (four h) e = let z : n ≡ 4 = cc in inl z
     of y (none h k) e = none-is-not n e
     of y (answered h k _ (refused u)) e = let z : n ≡ 5 = cc in inr z
@@ -226,35 +227,35 @@ granted-room (Given b) m = (omega arith, λ h. omega (arith, size-least (b .«si
 pub pairing : Pairing
 pairing =
     record {
-      four = λ b bare p t h. no-room b bare p t h;
-      fourOnly = λ b bare p t e. four-only b bare p t _ (out b bare p t) e;
-      noBlock = λ bare p t h l. with-room Absent bare p t (roomOf bare t) h refl ∙ absent-fits Absent p (roomOf bare t) refl l;
-      five = λ b bare p t h need u. five-when b bare p t h need u _ (out b bare p t);
-      fiveOnly = λ b bare p t e. five-only b bare p t _ (out b bare p t) e;
-      made = λ b bare p t h need u. made-when b bare p t h need u _ (out b bare p t);
-      value = λ b bare p t r e. let k = comes b bare p t r _ (out b bare p t) e in (k .num, k .more);
-      size = λ b bare p t r e h.
-          let k = comes b bare p t r _ (out b bare p t) e in
-          let s = size-large (granted b (roomOf bare t)) (k .least) (k .most) (granted-room b (roomOf bare t) .1 h) in
+      four = λ c b bare p h. no-room c b bare p h;
+      fourOnly = λ c b bare p e. four-only c b bare p _ (out c b bare p) e;
+      noBlock = λ c bare p h l. with-room c Absent bare p (roomOf c bare) h refl ∙ absent-fits c Absent p (roomOf c bare) refl l;
+      five = λ c b bare p h need u. five-when c b bare p h need u _ (out c b bare p);
+      fiveOnly = λ c b bare p e. five-only c b bare p _ (out c b bare p) e;
+      made = λ c b bare p h need u. made-when c b bare p h need u _ (out c b bare p);
+      value = λ c b bare p r e. let k = comes c b bare p r _ (out c b bare p) e in (k .num, k .more);
+      size = λ c b bare p r e h.
+          let k = comes c b bare p r _ (out c b bare p) e in
+          let s = size-large (granted b (roomOf c bare)) (k .least) (k .most) (granted-room b (roomOf c bare) .1 h) in
           (rw (k .exponent) (s .0), rw (k .exponent) (s .1), size-most (r .«size_exponent»));
-      fits = λ b bare p t r e h.
-          let k = comes b bare p t r _ (out b bare p t) e in
-          let s = size-large (granted b (roomOf bare t)) (k .least) (k .most) (granted-room b (roomOf bare t) .1 h) in
-          let z : blockSize r ≤ granted b (roomOf bare t) = rw (k .exponent) (s .0) in
-          omega (arith, granted-room b (roomOf bare t) .0, k .room-left);
-      small = λ b bare p t r e h.
-          let k = comes b bare p t r _ (out b bare p t) e in
-          let q : granted b (roomOf bare t) ≡ roomOf bare t = granted-room b (roomOf bare t) .2 h in
-          let z : blockSize r ≡ 16 = rw (k .exponent) (size-small (granted b (roomOf bare t)) (k .least) (k .most) (omega arith)) in
+      fits = λ c b bare p r e h.
+          let k = comes c b bare p r _ (out c b bare p) e in
+          let s = size-large (granted b (roomOf c bare)) (k .least) (k .most) (granted-room b (roomOf c bare) .1 h) in
+          let z : blockSize r ≤ granted b (roomOf c bare) = rw (k .exponent) (s .0) in
+          omega (arith, granted-room b (roomOf c bare) .0, k .room-left);
+      small = λ c b bare p r e h.
+          let k = comes c b bare p r _ (out c b bare p) e in
+          let q : granted b (roomOf c bare) ≡ roomOf c bare = granted-room b (roomOf c bare) .2 h in
+          let z : blockSize r ≡ 16 = rw (k .exponent) (size-small (granted b (roomOf c bare)) (k .least) (k .most) (omega arith)) in
           (z, omega (arith, k .room-left));
-      asked = λ b bare p t h hn hx.
+      asked = λ c b bare p h hn hx.
           let s : ℕ = blockSize b in
           let pos : 0 < s = omega (arith, size-least (b .«size_exponent»)) in
           let nz : s ≡ 0 → ⊥ = λ e. omega arith in
-          let full : min s (roomOf bare t) ≡ s = omega arith in
-          with-room (Given b) bare p t (roomOf bare t) (omega arith) refl
-          ∙ given-at (Given b) p (roomOf bare t) b refl
-          ∙ rw full (reply-made (blockStart b) s p nz
+          let full : min s (roomOf c bare) ≡ s = omega arith in
+          with-room c (Given b) bare p (roomOf c bare) (omega arith) refl
+          ∙ given-at c (Given b) p (roomOf c bare) b refl
+          ∙ rw full (reply-made c (blockStart b) s p nz
           ∙ rw (mul-div-cancel (b .num) pos)
-          (ap replyOf (made-well (b .num) _ s nz (b .«size_exponent») (sym (exponent-size (b .«size_exponent») hx)) hx hn)));
+          (ap replyOf (made-well c (b .num) _ s nz (b .«size_exponent») (sym (exponent-size (b .«size_exponent») hx)) hx hn)));
     }

@@ -318,8 +318,8 @@ module _ (c : Config) (k : List ℕ) (named : keyOk k ≡ true) where
 pub each-block : (c : Config) (x : ℕ) (first : Sent) (rest : List Sent) → Blocks c x first rest → Each (λ j more r. OneBlock c (block j more x) r) 0 first rest
 each-block c x first rest b = from 0 first rest (omega (arith, b .count)) (b .numbered) (b .full) (b .alone) (b .room)
   where
-    from : (j : ℕ) (s : Sent) (rest : List Sent) → j + length rest ≤ 4095 → Each (λ j more r. requestBlock (r .block1) ≡ Given (block j more x)) j s rest
-        → Each (λ j more r. Fills more (length (r .payload)) (sizeOf x)) j s rest → Each (λ j more r. requestBlock (r .block2) ≡ Absent) j s rest
+    from : (j : ℕ) (s : Sent) (rest : List Sent) → j + length rest ≤ 4095 → Each (λ j more r. requestBlock c (r .block1) ≡ Given (block j more x)) j s rest
+        → Each (λ j more r. Fills more (length (r .payload)) (sizeOf x)) j s rest → Each (λ j more r. requestBlock c (r .block2) ≡ Absent) j s rest
         → Each (λ j more r. r .bare + 12 + sizeOf x ≤ c .limit) j s rest → Each (λ j more r. OneBlock c (block j more x) r) j s rest
     from j s [] h n f a r = record { size = b .size; count = omega arith; numbered = n; full = f; alone = a; room = r }
     from j s (t ∷ rest) h n f a r =

@@ -1,7 +1,7 @@
 -- THE REFUSALS LEAVE WHAT DOCUMENT 01 SAYS. Assumes nothing.
-use Prim.Native.Nat.{ℕ, _-_, _*_, _≤_}
+use Prim.Native.Nat.{ℕ, _*_, _≤_}
 use mathlib.Core.Path.{_≡_, refl, sym, _∙_, ap}
-use mathlib.Core.Logic.{_⊎_, ⊎-elim}
+use mathlib.Core.Logic.{⊎-elim}
 use mathlib.Core.List.{List}
 use native.Mathlib.Omega.{arith}
 use lib.ListN.{length}
@@ -64,7 +64,7 @@ module _ (c : Config) (home away : ℕ) (s : BlockState) (u : List ℕ) (r : Req
 -- a step that leaves everything is refused with 4 to 10, and not with 8
 why-number : (c : Config) (home away : ℕ) (s : BlockState) (u : List ℕ) (r : Request) (n : ℕ) → Why c home away s u r n → (4 ≤ n) × (n ≤ 10) × (n ≡ 8 → ⊥)
 why-number c home away s u r n (unagreed m e) =
-    ⊎-elim (λ (z : m ≡ 4). (omega arith, omega arith, λ y. omega arith)) (λ (z : m ≡ 5). (omega arith, omega arith, λ y. omega arith)) (refusal-number _ _ _ _ m e)
+    ⊎-elim (λ (z : m ≡ 4). (omega arith, omega arith, λ y. omega arith)) (λ (z : m ≡ 5). (omega arith, omega arith, λ y. omega arith)) (refusal-number c _ _ _ m e)
 why-number c home away s u r n (badly b reply given e y) = (omega arith, omega arith, λ y. omega arith)
 why-number c home away s u r n (astray b reply given e f y) = (omega arith, omega arith, λ y. omega arith)
 why-number c home away s u r n (unspliced m e) =
@@ -82,7 +82,7 @@ unstored-number : (c : Config) (s : BlockState) (d : List ℕ) (r : Response) (a
 unstored-number c s d r a plain n e = never (cc)
 unstored-number c s d r a (disagreed m h) n e =
     let z : m ≡ n = same-number m n e in
-    ⊎-elim (λ (y : m ≡ 4). (omega arith, omega arith)) (λ (y : m ≡ 5). (omega arith, omega arith)) (refusal-number _ _ _ _ m h)
+    ⊎-elim (λ (y : m ≡ 4). (omega arith, omega arith)) (λ (y : m ≡ 5). (omega arith, omega arith)) (refusal-number c _ _ _ m h)
 unstored-number c s d r a (beyond b m is) n e = let z : m ≡ n = same-number m n e in let y = chunk-number b _ m is in (omega arith, omega arith)
 unstored-number c s d r a crowded n e = let z : 7 ≡ n = same-number 7 n e in (omega arith, omega arith)
 unstored-number c s d r a (whole y from to k) n e = never (cc)

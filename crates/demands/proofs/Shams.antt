@@ -189,15 +189,15 @@ shown-zero (Handed b p) payload n e = zero-part n p
 shown-zero Pass payload n e = let z : _≡_ {A = ℕ} 0 1 = cc in absurd (omega arith)
 shown-zero (Continue b) payload n e = refl
 shown-zero (TooLarge b) payload n e = refl
-shown-zero (Served b c p q) payload n e = refl
+shown-zero (Served s) payload n e = refl
 shown-zero Plain payload n e = refl
 shown-zero (Whole b p) payload n e = refl
 shown-zero (First b p) payload n e = refl
 shown-zero (Refused m) payload n e = refl
 
-first-reads : requestBlock (firstBlock .message .block1) ≡ Given (block 0 true 0)
+first-reads : (c : Config) → requestBlock c (firstBlock .message .block1) ≡ Given (block 0 true 0)
 unfolding values
-first-reads = refl
+first-reads c = refl
 
 pub excluded : Excluded
 excluded =
@@ -210,7 +210,7 @@ excluded =
           ∙ shown-zero (h (config b) fresh (callOn key alone) .answer) (7 ∷ []) 512 (handed-one h d b) in
           omega arith;
       handsAtZero = λ b h r d.
-          let z : _≡_ {A = ℕ} 0 1 = cc (continued h d b, r (config b) fresh key firstBlock true 0 refl (given-two b .push .limits) first-reads) in
+          let z : _≡_ {A = ℕ} 0 1 = cc (continued h d b, r (config b) fresh key firstBlock true 0 refl (given-two b .push .limits) (first-reads (config b))) in
           omega arith;
     }
 

@@ -37,9 +37,9 @@ use Rattle.demands.proofs.Refusals.{same-number, of-refusal}
 
 -- ---- what the two tests say
 
-good-is : (l : Assembled) (r : Request) (b : BlockValue) → requestBlock (r .block1) ≡ Given b → b .«size_exponent» ≤ 7
-    → badForm b (length (r .payload)) ≡ false → notNext l b ≡ false → RightlyTaken l r b
-good-is l r b given e7 good passed =
+good-is : (c : Config) (l : Assembled) (r : Request) (b : BlockValue) → requestBlock c (r .block1) ≡ Given b → b .«size_exponent» ≤ 7
+    → badForm b (length (r .payload)) ≡ false → notNext l b ≡ false → RightlyTaken c l r b
+good-is c l r b given e7 good passed =
     let p : ℕ = length (r .payload) in
     let well = not-bad b p good in
     record {
@@ -57,23 +57,23 @@ good-is l r b given e7 good passed =
     at-most over = omega (arith, over)
 
 -- an exponent that was read is three bits
-exponent-read : (o : Option (List ℕ)) (b : BlockValue) → requestBlock o ≡ Given b → b .«size_exponent» ≤ 7
+exponent-read : (c : Config) (o : Option (List ℕ)) (b : BlockValue) → requestBlock c o ≡ Given b → b .«size_exponent» ≤ 7
 unfolding requestBlock readOf
-exponent-read no-option b e = let z : _≡_ {A = ℕ} 0 1 = cc in absurd (omega arith)
-exponent-read (some []) b e = let z : b .«size_exponent» ≡ 0 % 8 = cc in omega arith
-exponent-read (some (x ∷ [])) b e = let z : b .«size_exponent» ≡ x % 8 = cc in omega arith
-exponent-read (some (x ∷ y ∷ [])) b e = let z : b .«size_exponent» ≡ (x * 256 + y) % 8 = cc in omega arith
-exponent-read (some (x ∷ y ∷ v ∷ l)) b e = let z : _≡_ {A = ℕ} 0 1 = cc in absurd (omega arith)
+exponent-read c no-option b e = let z : _≡_ {A = ℕ} 0 1 = cc in absurd (omega arith)
+exponent-read c (some []) b e = let z : b .«size_exponent» ≡ 0 % 8 = cc in omega arith
+exponent-read c (some (x ∷ [])) b e = let z : b .«size_exponent» ≡ x % 8 = cc in omega arith
+exponent-read c (some (x ∷ y ∷ [])) b e = let z : b .«size_exponent» ≡ (x * 256 + y) % 8 = cc in omega arith
+exponent-read c (some (x ∷ y ∷ v ∷ l)) b e = let z : _≡_ {A = ℕ} 0 1 = cc in absurd (omega arith)
 
 -- ---- a block that was taken
 
 taken-as : (c : Config) (home away : ℕ) (s : BlockState) (u : List ℕ) (r : Request) (b reply : BlockValue) (n : ℕ) → c .strict ≡ true → TookBlock c home away s u r b reply n
-    → (x : BlockValue) × RightlyTaken (s .assembled) r x
+    → (x : BlockValue) × RightlyTaken c (s .assembled) r x
 taken-as c home away s u r b reply n strict k =
-    (b, good-is (s .assembled) r b (k .given) (exponent-read (r .block1) b (k .given)) (rw strict at (k .form)) (rw strict at (k .next)))
+    (b, good-is c (s .assembled) r b (k .given) (exponent-read c (r .block1) b (k .given)) (rw strict at (k .form)) (rw strict at (k .next)))
 
 step-took : (c : Config) (home away : ℕ) (s : BlockState) (u : List ℕ) (r : Request) (g : Left) → c .strict ≡ true → Outcome c home away s u r g → tookBlock (g .answer) ≡ true
-    → (b : BlockValue) × RightlyTaken (s .assembled) r b
+    → (b : BlockValue) × RightlyTaken c (s .assembled) r b
 step-took c home away s u r g strict (refused n why) h = absurd (false≢true h)
 step-took c home away s u r g strict (past t v block1 a z x n k l e is) h = absurd (false≢true h)
 step-took c home away s u r g strict (tooLarge reply e) h = absurd (false≢true h)
@@ -84,9 +84,9 @@ step-took c home away s u r g strict (serves t v _ _ _ x y from to none l held a
 step-took c home away s u r g strict (serves t v _ _ _ x y from to (took b reply n k) l held asks is e) h = taken-as c home away s u r b reply n strict k
 
 taken-rightly : (c : Config) (w : World) (q : Call) (r : Request) → c .strict ≡ true → q .what ≡ request r → tookBlock (call c w q .answer) ≡ true
-    → (b : BlockValue) × RightlyTaken (assembledFor c w q) r b
+    → (b : BlockValue) × RightlyTaken c (assembledFor c w q) r b
 taken-rightly c w q r strict e =
-    answered (λ (a : Answer). tookBlock a ≡ true → (b : BlockValue) × RightlyTaken (assembledFor c w q) r b) c w q (λ n _ h. absurd (false≢true h)) r e
+    answered (λ (a : Answer). tookBlock a ≡ true → (b : BlockValue) × RightlyTaken c (assembledFor c w q) r b) c w q (λ n _ h. absurd (false≢true h)) r e
     (λ home away u g o. step-took c home away _ u r g strict o)
 
 -- ---- a block that is refused
@@ -112,20 +112,20 @@ module _ (c : Config) (w : World) (q : Call) (r : Request) (asks : q .what ≡ r
   l = assembledFor c w q
 
   abbrev Ten : Type 0
-  Ten = (c .strict ≡ true) × (b : BlockValue) × (requestBlock (r .block1) ≡ Given b) × BadlyFormed b (length (r .payload))
+  Ten = (c .strict ≡ true) × (b : BlockValue) × (requestBlock c (r .block1) ≡ Given b) × BadlyFormed b (length (r .payload))
 
   abbrev Nine : Type 0
-  Nine = (c .strict ≡ true) × (b : BlockValue) × (requestBlock (r .block1) ≡ Given b) × (BadlyFormed b (length (r .payload)) → ⊥) × Misplaced l b
+  Nine = (c .strict ≡ true) × (b : BlockValue) × (requestBlock c (r .block1) ≡ Given b) × (BadlyFormed b (length (r .payload)) → ⊥) × Misplaced l b
 
   module _ (home away : ℕ) (s : BlockState) (u : List ℕ) (its : s .assembled ≡ l) where
     why-ten : (n : ℕ) → Why c home away s u r n → n ≡ 10 → Ten
-    why-ten n (unagreed m e) z = absurd (⊎-elim (λ (y : m ≡ 4). omega arith) (λ (y : m ≡ 5). omega arith) (refusal-number _ _ _ _ m e))
+    why-ten n (unagreed m e) z = absurd (⊎-elim (λ (y : m ≡ 4). omega arith) (λ (y : m ≡ 5). omega arith) (refusal-number c _ _ _ m e))
     why-ten n (badly b reply given e y) z = (and-left _ _ y, b, given, bad-as b (length (r .payload)) (and-right (c .strict) _ y))
     why-ten n (astray b reply given e f y) z = absurd (omega arith)
     why-ten n (unspliced m e) z = absurd (⊎-elim (λ (y : m ≡ 6). omega arith) (λ (y : m ≡ 7). omega arith) e)
 
     why-nine : (n : ℕ) → Why c home away s u r n → n ≡ 9 → Nine
-    why-nine n (unagreed m e) z = absurd (⊎-elim (λ (y : m ≡ 4). omega arith) (λ (y : m ≡ 5). omega arith) (refusal-number _ _ _ _ m e))
+    why-nine n (unagreed m e) z = absurd (⊎-elim (λ (y : m ≡ 4). omega arith) (λ (y : m ≡ 5). omega arith) (refusal-number c _ _ _ m e))
     why-nine n (badly b reply given e y) z = absurd (omega arith)
     why-nine n (astray b reply given e f y) z =
         let strict : c .strict ≡ true = and-left _ _ y in
@@ -160,7 +160,7 @@ unchecked c home away s u r b f =
     }
 
 all-else : (c : Config) (w : World) (q : Call) (r : Request) → q .what ≡ request r
-    → ((b : BlockValue) → requestBlock (r .block1) ≡ Given b → Fine (assembledFor c w q) (length (r .payload)) b) → call c w q ≡ call (plainly c) w q
+    → ((b : BlockValue) → requestBlock c (r .block1) ≡ Given b → Fine (assembledFor c w q) (length (r .payload)) b) → call c w q ≡ call (plainly c) w q
 unfolding limits call callAt
 all-else c w q r e f = rw (e, step-plainly c _ _ (openedOf c w q .state) _ r (λ b given. unchecked c _ _ _ _ r b (f b given)))
 

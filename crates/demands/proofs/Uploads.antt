@@ -1,5 +1,5 @@
 -- IN STRICT MODE, WHAT IS HANDED ON IS WHAT WAS TAKEN. Assumes nothing.
-use Prim.Native.Nat.{ℕ, _+_, _-_, _*_, _≤_, _<_}
+use Prim.Native.Nat.{ℕ, _+_, _*_, _≤_, _<_}
 use mathlib.Core.Bool.{true, cond}
 use mathlib.Core.Path.{_≡_, refl, sym, _∙_, ap, subst}
 use mathlib.Core.Logic.{_⊎_, inl, inr, ⊎-elim}
@@ -89,7 +89,7 @@ module _ (c : Config) (strict : c .strict ≡ true) (home away : ℕ) (s : Block
       rw o (goes-behind b len n met start inside (k .long) ∙ ap (λ (l : List ℕ). l ++ r .payload) held))
 
   -- so is the entry once its step is done
-  keeps : (g : Left) → Outcome c home away s u r g → Has (g .state .assembled) (g .piece) (takenBy (request r) (g .answer) old)
+  keeps : (g : Left) → Outcome c home away s u r g → Has (g .state .assembled) (g .piece) (takenBy c (request r) (g .answer) old)
   keeps g (refused n why) = has
   keeps g (past t v _ _ _ x n none y e is) = rw y has
   keeps g (past t v _ _ _ x n (took b reply m k) y e is) = inl (rw y)
@@ -102,11 +102,11 @@ module _ (c : Config) (strict : c .strict ≡ true) (home away : ℕ) (s : Block
 
   -- and a body that is handed on is what was taken
   abbrev Shows : Left → Answer → Type 0
-  Shows g (Handed b body) = (n : ℕ) × (n ≤ c .upload) × (body ≡ bytesFrom home n) × (take n (g .piece) ≡ takenBy (request r) (Handed b body) old)
+  Shows g (Handed b body) = (n : ℕ) × (n ≤ c .upload) × (body ≡ bytesFrom home n) × (take n (g .piece) ≡ takenBy c (request r) (Handed b body) old)
   Shows g (Continue b) = Unit {0}
   Shows g (TooLarge b) = Unit {0}
   Shows g Pass = Unit {0}
-  Shows g (Served block1 b head chunk) = Unit {0}
+  Shows g (Served s) = Unit {0}
   Shows g Plain = Unit {0}
   Shows g (Whole b chunk) = Unit {0}
   Shows g (First b chunk) = Unit {0}
@@ -162,7 +162,7 @@ module _ (c : Config) (strict : c .strict ≡ true) (w : World) (q : Call) (k ol
 
     -- what is known once the call has left this memory and this answer
     abbrev afterwards : What → List ℕ → Answer → ℕ → BlockState → Type 0
-    afterwards x mem a = Taken c mem (cond (same k (q .key)) (takenBy x a old) old)
+    afterwards x mem a = Taken c mem (cond (same k (q .key)) (takenBy c x a old) old)
 
     placed : (x : What) → WhatBytes x → let d = callAt c w (q .time) (rowOf c w q) here e x in Known (d .world) k (afterwards x (d .world .upload) (d .answer))
     unfolding callAt
@@ -184,16 +184,16 @@ module _ (c : Config) (strict : c .strict ≡ true) (w : World) (q : Call) (k ol
         rw (cond-same (same k (q .key)) old)
         (put-known c w q k f before known before (stepResponse c (e .state) d r .state) b (λ y. rw same-so (opened-has b y)) (λ n j t ne has. has))
 
-  refused-taken : (n : ℕ) → takenOn k old q (Refused n) ≡ old
+  refused-taken : (n : ℕ) → takenOn c k old q (Refused n) ≡ old
   refused-taken n = as-it-was (q .what)
     where
-      as-it-was : (x : What) → cond (same k (q .key)) (takenBy x (Refused n) old) old ≡ old
+      as-it-was : (x : What) → cond (same k (q .key)) (takenBy c x (Refused n) old) old ≡ old
       as-it-was (request r) = cond-same (same k (q .key)) old
       as-it-was (response r) = cond-same (same k (q .key)) old
 
-  known-call : AllHas c (call c w q .world) k (takenOn k old q (call c w q .answer))
+  known-call : AllHas c (call c w q .world) k (takenOn c k old q (call c w q .answer))
   known-call =
-      early-or-placed (λ (d : Done). AllHas c (d .world) k (takenOn k old q (d .answer))) c w q
+      early-or-placed (λ (d : Done). AllHas c (d .world) k (takenOn c k old q (d .answer))) c w q
       (λ n h. subst (AllHas c w k) (sym (refused-taken n)) known) (λ ok later b. placed ok later b (q .what) bytes)
 
 -- ---- runs
@@ -202,21 +202,21 @@ known-run : (c : Config) → c .strict ≡ true → (k : List ℕ) (calls : List
     → AllHas c (after call c w calls) k (allTaken call c w k old calls)
 known-run c strict k [] w old f ab known = known
 known-run c strict k (q ∷ calls) w old f ab known =
-    known-run c strict k calls (call c w q .world) (takenOn k old q (call c w q .answer)) (call-fits c w q (ab .0) f) (ab .1) (known-call c strict w q k old f (ab .0) known)
+    known-run c strict k calls (call c w q .world) (takenOn c k old q (call c w q .answer)) (call-fits c w q (ab .0) f) (ab .1) (known-call c strict w q k old f (ab .0) known)
 
 taken-cut : (h : Handler) (c : Config) (k : List ℕ) (a : List Call) (q : Call) (w : World) (old : List ℕ)
-    → allTaken h c w k old (a ++ (q ∷ [])) ≡ takenOn k (allTaken h c w k old a) q (h c (after h c w a) q .answer)
+    → allTaken h c w k old (a ++ (q ∷ [])) ≡ takenOn c k (allTaken h c w k old a) q (h c (after h c w a) q .answer)
 taken-cut h c k [] q w old = refl
-taken-cut h c k (p ∷ a) q w old = taken-cut h c k a q (h c w p .world) (takenOn k old p (h c w p .answer))
+taken-cut h c k (p ∷ a) q w old = taken-cut h c k a q (h c w p .world) (takenOn c k old p (h c w p .answer))
 
 -- ---- the call that hands on
 
 handed-body : (c : Config) → c .strict ≡ true → (w : World) (q : Call) (old : List ℕ) (r : Request) (b : BlockValue) (body : Part) → WorldFits c w → WhatBytes (request r)
     → AllHas c w (q .key) old → q .what ≡ request r → call c w q .answer ≡ Handed b body
-    → bodyOf (call c w q .answer) (r .payload) (call c w q .world .upload) ≡ takenBy (request r) (call c w q .answer) old
+    → bodyOf (call c w q .answer) (r .payload) (call c w q .world .upload) ≡ takenBy c (request r) (call c w q .answer) old
 unfolding callAt
 handed-body c strict w q old r b body f bytes known er =
-    early-or-placed (λ (d : Done). d .answer ≡ Handed b body → bodyOf (d .answer) (r .payload) (d .world .upload) ≡ takenBy (request r) (d .answer) old) c w q
+    early-or-placed (λ (d : Done). d .answer ≡ Handed b body → bodyOf (d .answer) (r .payload) (d .world .upload) ≡ takenBy c (request r) (d .answer) old) c w q
     (λ n h e. let z : _≡_ {A = ℕ} 0 1 = cc in absurd (omega arith))
     (λ ok later i16.
     rw er (λ e.
@@ -238,7 +238,7 @@ handed-body c strict w q old r b body f bytes known er =
     let put : pieceOf (c .upload) i mem ≡ g .piece = piece-put-same (c .upload) (w .upload) i room (g .piece) full in
     let inside-mem : i * c .upload + c .upload ≤ length mem = rw (length-put (c .upload) (w .upload) i room (g .piece) full) room in
     ap (λ (a : Answer). bodyOf a (r .payload) mem) e ∙ ap (partOf mem) (k .2) ∙ shown-part mem (c .upload) i (k .0) inside-mem (k .1)
-    ∙ ap (take (k .0)) put ∙ k .3 ∙ ap (λ (a : Answer). takenBy (request r) a old) (sym e)))
+    ∙ ap (take (k .0)) put ∙ k .3 ∙ ap (λ (a : Answer). takenBy c (request r) a old) (sym e)))
 
 -- WHAT IS HANDED ON IS WHAT WAS TAKEN
 pub hands-what-was-taken : HandsWhatWasTaken call
@@ -253,4 +253,4 @@ hands-what-was-taken c w calls q r b body strict fresh ab er e =
     rw (taken-cut call c (q .key) calls q w [], same-refl (q .key))
     (ap (λ (x : What). bodyOf (d .answer) (payloadOf x) (d .world .upload)) er
     ∙ handed-body c strict (after call c w calls) q old r b body (after-fits c calls w f before) bytes (known-run c strict (q .key) calls w [] f before known) er e
-    ∙ ap (λ (x : What). takenBy x (d .answer) old) (sym er))
+    ∙ ap (λ (x : What). takenBy c x (d .answer) old) (sym er))

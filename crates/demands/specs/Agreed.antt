@@ -21,12 +21,12 @@ use Rattle.demands.specs.Touch.{Placed, RefusesTo}
 
 -- A request negotiates with its Block1 value, always.
 abbrev pub requestAgrees : Config → Request → Negotiated
-requestAgrees c r = negotiated (requestBlock (r .block1)) (r .bare) (length (r .payload)) (c .limit)
+requestAgrees c r = negotiated c (requestBlock c (r .block1)) (r .bare) (length (r .payload))
 
 -- A response without a Block2 option of its own negotiates with the Block2 value that is recorded for its key.
 abbrev pub responseAgrees : Config → World → Call → Response → Negotiated
 responseAgrees c w q r =
-    negotiated (recordedBlock (opened (q .key) (rowOf c w q) .state .recorded)) (r .bare) (length (r .payload)) (c .limit)
+    negotiated c (recordedBlock (opened (q .key) (rowOf c w q) .state .recorded)) (r .bare) (length (r .payload))
 
 pub record Agrees (h : Handler) : Type 0 where
   -- A call that has its place, and whose negotiation gives a refusal (4 or 5), gets that refusal and changes nothing but the touch.

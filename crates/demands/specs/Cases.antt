@@ -79,33 +79,34 @@ afterFirst = step false old (replicate 64 1) (0x08 ∷ []) (replicate 16 2)
 abbrev pub afterLast : Left
 afterLast = step false (afterFirst .state) (afterFirst .piece) (0x10 ∷ []) (replicate 16 3)
 
-abbrev pub cases : List Row
-cases =
+-- The configuration is this one, in either mode.
+abbrev pub cases : Bool → List Row
+cases strict =
     -- 1. Make size 15: exponent 0. Size 32: 1. Size 0: refused.
-    makes (made 0 false 15) (made.Value (block 0 false 0))
-    ∷ makes (made 0 false 32) (made.Value (block 0 false 1))
-    ∷ makes (made 0 false 0) made.Refused
+    makes (made (config strict) 0 false 15) (made.Value (block 0 false 0))
+    ∷ makes (made (config strict) 0 false 32) (made.Value (block 0 false 1))
+    ∷ makes (made (config strict) 0 false 0) made.Refused
     -- 2. Size 4095: exponent 7. Size 4096: refused.
-    ∷ makes (made 0 false 4095) (made.Value (block 0 false 7))
-    ∷ makes (made 0 false 4096) made.Refused
+    ∷ makes (made (config strict) 0 false 4095) (made.Value (block 0 false 7))
+    ∷ makes (made (config strict) 0 false 4096) made.Refused
     -- 3. Num 65,535: made. 65,536: refused.
-    ∷ makes (made 65535 false 16) (made.Value (block 65535 false 0))
-    ∷ makes (made 65536 false 16) made.Refused
+    ∷ makes (made (config strict) 65535 false 16) (made.Value (block 65535 false 0))
+    ∷ makes (made (config strict) 65536 false 16) made.Refused
     -- 4. Byte 0x08: num 0, more, size 16. Empty: num 0, not more, size 16.
-    ∷ reads (readOf (0x08 ∷ [])) (read.Value (block 0 true 0))
-    ∷ reads (readOf []) (read.Value (block 0 false 0))
+    ∷ reads (readOf (config strict) (0x08 ∷ [])) (read.Value (block 0 true 0))
+    ∷ reads (readOf (config strict) []) (read.Value (block 0 false 0))
     ∷ number (sizeOf 0) 16
     -- 5. T 1152, bare 116, no block: p 1023 none; p 1024 gives 0, more, 1024.
-    ∷ negotiates (negotiated Absent 116 1023 1152) reply.NoBlock
-    ∷ negotiates (negotiated Absent 116 1024 1152) (reply.Block (block 0 true 6))
+    ∷ negotiates (negotiated (config strict) Absent 116 1023) reply.NoBlock
+    ∷ negotiates (negotiated (config strict) Absent 116 1024) (reply.Block (block 0 true 6))
     ∷ number (sizeOf 6) 1024
     -- 6. T 1152: bare 1140 refusal 5; bare 1141 refusal 4.
-    ∷ negotiates (negotiated Absent 1140 0 1152) (reply.Refused 5)
-    ∷ negotiates (negotiated (Given (block 0 false 0)) 1140 0 1152) (reply.Refused 5)
-    ∷ negotiates (negotiated Absent 1141 0 1152) (reply.Refused 4)
-    ∷ negotiates (negotiated (Given (block 0 false 0)) 1141 0 1152) (reply.Refused 4)
+    ∷ negotiates (negotiated (config strict) Absent 1140 0) (reply.Refused 5)
+    ∷ negotiates (negotiated (config strict) (Given (block 0 false 0)) 1140 0) (reply.Refused 5)
+    ∷ negotiates (negotiated (config strict) Absent 1141 0) (reply.Refused 4)
+    ∷ negotiates (negotiated (config strict) (Given (block 0 false 0)) 1141 0) (reply.Refused 4)
     -- 7. m = 1000, num 2, size 1024: num 2, size 512.
-    ∷ negotiates (within (Given (block 2 false 6)) 0 1000) (reply.Block (block 2 false 5))
+    ∷ negotiates (within (config strict) (Given (block 2 false 6)) 0 1000) (reply.Block (block 2 false 5))
     ∷ number (sizeOf 5) 512
     -- 8. Nothing assembled, size 1024: num 15 accepted (U at least 16,384); num 16 refusal 6.
     ∷ splices (spliceOfBlock 16384 0 (block 15 true 6) 1024) (splice.Body 16384)

@@ -22,28 +22,30 @@ use Rattle.demands.specs.Demand3.{Handler, Seen, seen, run, after, seenO
 -- ---- What the compiled calls ensure, and that they ask nothing
 
 -- What `intercept_request` ensures, as the checker reads it off the function, is `Meant` of its parameters `a`, its result `r` and its
--- parameters as they are at exit, `s`. (A parameter is reached by its place: the configuration, the table, the upload memory, and so on.)
+-- parameters as they are at exit, `s`. (A parameter is reached by its place: the configuration, the table, the upload memory and the response memory, `mems`;
+-- the numbers, the key, the options or the head, and the payload, `message`.)
 abbrev pub RequestEnsures : Type 1
 RequestEnsures =
     (κs : Lfts 2) (a : ArgsD intercept_request.signature κs) (r : ResD intercept_request.signature κs)
     (s : AtExit (endedOf 2 intercept_request.Kinds.ps intercept_request.Kinds.r) κs)
-    → intercept_request.Reads.Learnt κs a r s
-    ≡ Meant (a .0) (world (a .1 .0) (now (a .1 .1 .0)) (now (a .1 .1 .1 .0)))
-    (requestCall (a .1 .1 .1 .1 .0) (now (a .1 .1 .1 .1 .1 .0)) (a .1 .1 .1 .1 .1 .1 .0)
-    (a .1 .1 .1 .1 .1 .1 .1 .0) (now (a .1 .1 .1 .1 .1 .1 .1 .1 .0)) (a .1 .1 .1 .1 .1 .1 .1 .1 .1 .0) (now (a .1 .1 .1 .1 .1 .1 .1 .1 .1 .1 .0))
-    (now (a .1 .1 .1 .1 .1 .1 .1 .1 .1 .1 .1 .0)))
-    (world (r .table) (now (s .1 .1 .0)) (now (a .1 .1 .1 .0))) (r .answer)
+    → let mems = a .1 .1 in
+    let message = mems .1 .1 in
+    intercept_request.Reads.Learnt κs a r s
+    ≡ Meant (a .0) (world (a .1 .0) (now (mems .0)) (now (mems .1 .0)))
+    (requestCall (message .0) (now (message .1 .0)) (now (message .1 .1 .0)) (now (message .1 .1 .1 .0)) (now (message .1 .1 .1 .1 .0)))
+    (world (r .table) (now (s .1 .1 .0)) (now (mems .1 .0))) (r .answer)
 
 -- And `intercept_response`.
 abbrev pub ResponseEnsures : Type 1
 ResponseEnsures =
     (κs : Lfts 2) (a : ArgsD intercept_response.signature κs) (r : ResD intercept_response.signature κs)
     (s : AtExit (endedOf 2 intercept_response.Kinds.ps intercept_response.Kinds.r) κs)
-    → intercept_response.Reads.Learnt κs a r s
-    ≡ Meant (a .0) (world (a .1 .0) (now (a .1 .1 .0)) (now (a .1 .1 .1 .0)))
-    (responseCall (a .1 .1 .1 .1 .0) (now (a .1 .1 .1 .1 .1 .0)) (a .1 .1 .1 .1 .1 .1 .0)
-    (a .1 .1 .1 .1 .1 .1 .1 .0) (now (a .1 .1 .1 .1 .1 .1 .1 .1 .0)) (now (a .1 .1 .1 .1 .1 .1 .1 .1 .1 .0)))
-    (world (r .table) (now (a .1 .1 .0)) (now (s .1 .1 .1 .0))) (r .answer)
+    → let mems = a .1 .1 in
+    let message = mems .1 .1 in
+    intercept_response.Reads.Learnt κs a r s
+    ≡ Meant (a .0) (world (a .1 .0) (now (mems .0)) (now (mems .1 .0)))
+    (responseCall (message .0) (now (message .1 .0)) (now (message .1 .1 .0)) (now (message .1 .1 .1 .0)))
+    (world (r .table) (now (mems .0)) (now (s .1 .1 .1 .0))) (r .answer)
 
 -- The body that is seen is what `body` ensures of the answer, the payload and the upload memory.
 abbrev pub BodyEnsures : Type 1

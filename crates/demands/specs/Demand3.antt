@@ -145,13 +145,13 @@ pub record Blocks (c : Config) (x : ℕ) (first : Sent) (rest : List Sent) : Typ
   -- "Its client sends blocks 0 to n-1 in order, n from 1 to 4096", where n is the length of first ∷ rest;
   -- "all .. marked "more" but the last, which is .. unmarked": what the Block1 option of each reads as.
   pub count : length (first ∷ rest) ≤ 4096
-  pub numbered : Each (λ j more r. requestBlock (r .block1) ≡ Given (block j more x)) 0 first rest
+  pub numbered : Each (λ j more r. requestBlock c (r .block1) ≡ Given (block j more x)) 0 first rest
   -- "One size from 16 to 1024 bytes": 2 to the power x + 4.
   pub size : x ≤ 6
   -- "All full .. but the last, which is no longer".
   pub full : Each (λ j more r. Fills more (length (r .payload)) (sizeOf x)) 0 first rest
   -- "None carries Block2": none, or one that is unreadable and so counts as absent.
-  pub alone : Each (λ j more r. requestBlock (r .block2) ≡ Absent) 0 first rest
+  pub alone : Each (λ j more r. requestBlock c (r .block2) ≡ Absent) 0 first rest
   -- "Each message leaves room for that size". Document 01: ""leaves room" means bare + 12 + size <= T"; bare is "the length of the message encoded with
   -- its payload taken out".
   pub room : Each (λ j more r. r .bare + 12 + sizeOf x ≤ c .limit) 0 first rest

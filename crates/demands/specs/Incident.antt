@@ -18,7 +18,8 @@ use Rattle.block_state.specs.State.{assembly, nothing, withAssembled}
 use Rattle.block_state.specs.Step.{Left, bytesFrom}
 use Rattle.request_step.specs.Step.{stepRequest}
 use Rattle.keys.specs.Keys.{stored}
-use Rattle.entries.specs.Entries.{inUse, free}
+use Rattle.entries.specs.Entries.{inUse}
+use Rattle.block_table.specs.Table.{freshTable, tableWith}
 use Rattle.block_handler.specs.Call.{World, Call, call}
 use Rattle.demands.specs.Shams.{sent}
 use Rattle.demands.specs.Demand3.{Handler, run, callsOn, seenOn, Sent, callOn, block, joined, Rising, HasLive, Push, HandsOn}
@@ -27,9 +28,9 @@ use Rattle.demands.specs.Demand3.{Handler, run, callsOn, seenOn, Sent, c
 
 -- A request that carries block j of exponent x, full, with no Block2, and leaves room for its size.
 pub record Carries (c : Config) (x j : ℕ) (more : Bool) (r : Request) : Type 0 where
-  pub numbered : requestBlock (r .block1) ≡ Given (block j more x)
+  pub numbered : requestBlock c (r .block1) ≡ Given (block j more x)
   pub full : length (r .payload) ≡ sizeOf x
-  pub alone : requestBlock (r .block2) ≡ Absent
+  pub alone : requestBlock c (r .block2) ≡ Absent
   pub room : r .bare + 12 + sizeOf x ≤ c .limit
 
 -- The state after the first of two requests, and after both.
@@ -61,7 +62,7 @@ shop strict = record { strict = strict; limit = 64; lifetime = 1000; upload = 64
 abbrev pub cancelled : World
 cancelled =
     record {
-      table = record { clock = 5; entries = inUse (stored lane) 5 (withAssembled nothing (assembly 64 0)) ∷ replicate 15 free };
+      table = tableWith 5 (freshTable .entries) 0 (inUse (stored lane) 5 (withAssembled nothing (assembly 64 0)));
       upload = replicate 64 1 ++ replicate 960 0;
       response = replicate 256 0;
     }

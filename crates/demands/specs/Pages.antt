@@ -12,10 +12,9 @@ use Rattle.block_value.specs.Value.{blockSize, blockStart}
 use Rattle.block_value.specs.declared.BlockValue.{BlockValue}
 use Rattle.negotiation.specs.Negotiation.{requestBlock}
 use Rattle.negotiation.specs.Chunk.{chunkBlock}
-use Rattle.negotiation.specs.declared.MaybeBlock.{MaybeBlock}
 use Rattle.negotiation.specs.declared.MaybeBlock.the-variants.{Given}
 use Rattle.config.specs.declared.Config.{Config}
-use Rattle.block_state.specs.declared.Part.{Part}
+use Rattle.block_state.specs.declared.Served as served
 use Rattle.block_state.specs.declared.Answer.{Answer}
 use Rattle.block_state.specs.declared.Answer.the-variants.{Continue, TooLarge, Handed, Pass, Served, Plain, Whole, First, Refused}
 use Rattle.block_state.specs.Message.{Request, What, request, response}
@@ -35,7 +34,7 @@ isFirst (Continue b) = false
 isFirst (TooLarge b) = false
 isFirst (Handed b body) = false
 isFirst Pass = false
-isFirst (Served block1 b head chunk) = false
+isFirst (Served s) = false
 isFirst Plain = false
 isFirst (Whole b chunk) = false
 isFirst (First b chunk) = true
@@ -56,21 +55,21 @@ lastStored h c w k old (q ∷ calls) = lastStored h c (h c w q .world) k (noted 
 
 -- ---- What is promised
 
-pub record ShowsPage (r : Request) (b : BlockValue) (stored : Option Page) (head chunk : List ℕ) : Type 0 where
+pub record ShowsPage (c : Config) (r : Request) (b : BlockValue) (stored : Option Page) (head chunk : List ℕ) : Type 0 where
   pub page : Page
   pub last : stored ≡ some page
   -- The request's Block2 value is `asked`. The answer's is document 01's of that chunk: "more exactly if (k+1)s < n; num and exponent are those asked".
   pub asked : BlockValue
-  pub asks : requestBlock (r .block2) ≡ Given asked
+  pub asks : requestBlock c (r .block2) ≡ Given asked
   pub value : b ≡ chunkBlock asked (length (page .payload))
   pub itsHead : head ≡ page .head
   pub itsChunk : chunk ≡ part (page .payload) (blockStart asked) (min (blockStart asked + blockSize asked) (length (page .payload)) - blockStart asked)
 
 unfoldable pub ServesThePage : Handler → Type 0
 ServesThePage h =
-    (c : Config) (w : World) (calls : List Call) (q : Call) (r : Request) (block1 : MaybeBlock) (b : BlockValue) (head chunk : Part)
+    (c : Config) (w : World) (calls : List Call) (q : Call) (r : Request) (s : served.Served)
     → Fresh c w → AllBytes calls
-    → q .what ≡ request r → h c (after h c w calls) q .answer ≡ Served block1 b head chunk
-    → ShowsPage r b (lastStored h c w (q .key) none calls)
+    → q .what ≡ request r → h c (after h c w calls) q .answer ≡ Served s
+    → ShowsPage c r (s .block2) (lastStored h c w (q .key) none calls)
     (servedHead (h c (after h c w calls) q .answer) (h c (after h c w calls) q .world .response))
     (servedChunk (h c (after h c w calls) q .answer) (h c (after h c w calls) q .world .response))

@@ -11,15 +11,16 @@ use Rattle.negotiation.specs.Negotiation.{requestBlock}
 use Rattle.negotiation.specs.declared.MaybeBlock.{MaybeBlock}
 use Rattle.negotiation.specs.declared.MaybeBlock.the-variants.{Absent, Given}
 use Rattle.config.specs.declared.Config.{Config}
+use Rattle.block_state.specs.declared.Kind.{Kind}
 use Rattle.block_state.specs.declared.Answer.{Answer}
 use Rattle.block_state.specs.declared.Answer.the-variants.{Continue, Handed, Pass, Refused}
 use Rattle.block_state.specs.Message.{What, request, response}
-use Rattle.block_state.specs.Answers.{Kind, said, continue, handed, pass, first, refusal}
+use Rattle.block_state.specs.Answers.{said, continue, handed, pass, first, refusal}
 use Rattle.block_state.specs.State.{nothing}
 use Rattle.block_state.specs.Step.{bytesFrom}
 use Rattle.keys.specs.Keys.{stored}
-use Rattle.entries.specs.Entries.{inUse, free}
-use Rattle.block_table.specs.Table.{freshTable}
+use Rattle.entries.specs.Entries.{inUse}
+use Rattle.block_table.specs.Table.{freshTable, tableWith}
 use Rattle.block_handler.specs.Call.{World, Call, done, call, withinLimits}
 use Rattle.demands.specs.Demand3.{Handler, Seen, run, Sent, callOn, block, HasLive, Granted, Demand3}
 
@@ -75,7 +76,7 @@ wide strict = record { strict = strict; limit = 1152; lifetime = 120000; upload 
 abbrev pub used : World
 used =
     record {
-      table = record { clock = 5; entries = inUse (stored key) 5 nothing ∷ replicate 15 free };
+      table = tableWith 5 (freshTable .entries) 0 (inUse (stored key) 5 nothing);
       upload = replicate 49152 0;
       response = replicate 256 0;
     }
@@ -121,7 +122,7 @@ StoresNothing strict h = (c : Config) (w : World) (q : Call) → c .strict ≡ s
 abbrev pub HandsAtZero : Bool → Handler → Type 0
 HandsAtZero strict h =
     (c : Config) (w : World) (k : List ℕ) (s : Sent) (more : Bool) (x : ℕ) → c .strict ≡ strict → withinLimits c w (callOn k s) ≡ true
-    → requestBlock (s .message .block1) ≡ Given (block 0 more x)
+    → requestBlock c (s .message .block1) ≡ Given (block 0 more x)
     → said (h c w (callOn k s) .answer) .kind ≡ handed
 
 abbrev pub BreaksDemand3 : (Bool → Handler → Type 0) → Type 0
@@ -148,12 +149,12 @@ abbrev pub nod : MaybeBlock → Answer
 nod Absent = Pass
 nod (Given b) = cond (eqb (b .num) 0) (Handed b (bytesFrom 0 16)) (Continue b)
 
-abbrev pub block1Of : What → MaybeBlock
-block1Of (request r) = requestBlock (r .block1)
-block1Of (response r) = Absent
+abbrev pub block1Of : Config → What → MaybeBlock
+block1Of c (request r) = requestBlock c (r .block1)
+block1Of c (response r) = Absent
 
 abbrev pub nodder : Handler
-nodder c w q = done (call c w q .world) (nod (block1Of (q .what)))
+nodder c w q = done (call c w q .world) (nod (block1Of c (q .what)))
 
 pub record Exist : Type 0 where
   pub refuses : (strict : Bool) → RefusesAll strict refuser

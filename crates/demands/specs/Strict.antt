@@ -10,6 +10,7 @@ use lib.ListN.{length, replicate}
 use Rattle.block_value.specs.Value.{blockSize, blockStart}
 use Rattle.block_value.specs.declared.BlockValue.{BlockValue}
 use Rattle.negotiation.specs.Negotiation.{requestBlock, negotiated}
+use Rattle.negotiation.specs.declared.MaybeBlock.{MaybeBlock}
 use Rattle.negotiation.specs.declared.MaybeBlock.the-variants.{Absent, Given}
 use Rattle.negotiation.specs.declared.Negotiated.the-variants.{Block}
 use Rattle.config.specs.declared.Config.{Config}
@@ -27,14 +28,17 @@ use Rattle.demands.specs.Demand3.{Handler, block}
 use Rattle.demands.specs.Cases.{Row, answers, number, step}
 use Rattle.demands.specs.Touch.{Placed, RefusesTo}
 
+abbrev pub isGiven : MaybeBlock → Bool
+isGiven Absent = false
+isGiven (Given b) = true
+
 -- The answer took a block: Continue, Handed, or a Served that carries Block1 too.
 abbrev pub tookBlock : Answer → Bool
 tookBlock (Continue b) = true
 tookBlock (TooLarge b) = false
 tookBlock (Handed b body) = true
 tookBlock Pass = false
-tookBlock (Served (Given b) b2 head chunk) = true
-tookBlock (Served Absent b2 head chunk) = false
+tookBlock (Served s) = isGiven (s .block1)
 tookBlock Plain = false
 tookBlock (Whole b chunk) = false
 tookBlock (First b chunk) = false
@@ -46,9 +50,9 @@ assembledFor c w q = opened (q .key) (rowOf c w q) .state .assembled
 
 -- ---- A block that was taken
 
-pub record RightlyTaken (l : Assembled) (r : Request) (b : BlockValue) : Type 0 where
+pub record RightlyTaken (c : Config) (l : Assembled) (r : Request) (b : BlockValue) : Type 0 where
   -- b is the request's Block1 value.
-  pub given : requestBlock (r .block1) ≡ Given b
+  pub given : requestBlock c (r .block1) ≡ Given b
   -- Its exponent is at most 6, its payload no longer than its size, and just as long if it is marked "more".
   pub exponent : b .«size_exponent» ≤ 6
   pub short : length (r .payload) ≤ blockSize b
@@ -69,10 +73,10 @@ Misplaced l b = (b .num ≡ 0 → ⊥) × ((blockStart b ≡ l .len) × (b .«si
 -- A request with Block1 value b that passes checks 1 to 3 (`Placed`), and 4 and 5: a block is agreed on.
 pub record PassesFive (c : Config) (w : World) (q : Call) (r : Request) (b : BlockValue) : Type 0 where
   pub asks : q .what ≡ request r
-  pub given : requestBlock (r .block1) ≡ Given b
+  pub given : requestBlock c (r .block1) ≡ Given b
   pub placed : Placed c w q
   pub reply : BlockValue
-  pub agreed : negotiated (Given b) (r .bare) (length (r .payload)) (c .limit) ≡ Block reply
+  pub agreed : negotiated c (Given b) (r .bare) (length (r .payload)) ≡ Block reply
 
 -- ---- All else
 
@@ -89,22 +93,22 @@ pub record Fine (l : Assembled) (p : ℕ) (b : BlockValue) : Type 0 where
 pub record StrictSaysNo (h : Handler) : Type 0 where
   -- Any answer that took a block took it rightly.
   pub taken : (c : Config) (w : World) (q : Call) (r : Request) → c .strict ≡ true → q .what ≡ request r → tookBlock (h c w q .answer) ≡ true
-      → (b : BlockValue) × RightlyTaken (assembledFor c w q) r b
+      → (b : BlockValue) × RightlyTaken c (assembledFor c w q) r b
   -- Badly formed: 10, misplaced or not. (So 10 stands before 9.)
   pub ten : (c : Config) (w : World) (q : Call) (r : Request) (b : BlockValue) → c .strict ≡ true → PassesFive c w q r b
       → BadlyFormed b (length (r .payload)) → RefusesTo 10 h c w q
   -- And 10 only then, in strict mode.
   pub tenOnly : (c : Config) (w : World) (q : Call) (r : Request) → q .what ≡ request r → h c w q .answer ≡ Refused 10
-      → (c .strict ≡ true) × (b : BlockValue) × (requestBlock (r .block1) ≡ Given b) × BadlyFormed b (length (r .payload))
+      → (c .strict ≡ true) × (b : BlockValue) × (requestBlock c (r .block1) ≡ Given b) × BadlyFormed b (length (r .payload))
   -- Well formed and misplaced: 9.
   pub nine : (c : Config) (w : World) (q : Call) (r : Request) (b : BlockValue) → c .strict ≡ true → PassesFive c w q r b
       → (BadlyFormed b (length (r .payload)) → ⊥) → Misplaced (assembledFor c w q) b → RefusesTo 9 h c w q
   -- And 9 only then, in strict mode.
   pub nineOnly : (c : Config) (w : World) (q : Call) (r : Request) → q .what ≡ request r → h c w q .answer ≡ Refused 9
-      → (c .strict ≡ true) × (b : BlockValue) × (requestBlock (r .block1) ≡ Given b) × (BadlyFormed b (length (r .payload)) → ⊥) × Misplaced (assembledFor c w q) b
+      → (c .strict ≡ true) × (b : BlockValue) × (requestBlock c (r .block1) ≡ Given b) × (BadlyFormed b (length (r .payload)) → ⊥) × Misplaced (assembledFor c w q) b
   -- "All else is as in plain mode": a request with no Block1 value or a fine one, and any response, is answered and leaves just what it does in plain mode.
   pub allElse : (c : Config) (w : World) (q : Call) (r : Request) → q .what ≡ request r
-      → ((b : BlockValue) → requestBlock (r .block1) ≡ Given b → Fine (assembledFor c w q) (length (r .payload)) b) → h c w q ≡ h (plainly c) w q
+      → ((b : BlockValue) → requestBlock c (r .block1) ≡ Given b → Fine (assembledFor c w q) (length (r .payload)) b) → h c w q ≡ h (plainly c) w q
   pub responses : (c : Config) (w : World) (q : Call) (r : Response) → q .what ≡ response r → h c w q ≡ h (plainly c) w q
 
 -- ---- Cases, as rows of a table of their own (T 1152, U 64, bare 20). The block value of an answer is the reply's: its "more" is as negotiated, not as sent.

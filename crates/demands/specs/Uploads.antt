@@ -27,17 +27,17 @@ joinedBy Absent old payload = old
 joinedBy (Given b) old payload = cond (eqb (b .num) 0) payload (old ++ payload)
 
 -- A request whose answer took a block adds to what was taken; nothing else does.
-abbrev pub takenBy : What → Answer → List ℕ → List ℕ
-takenBy (request r) a old = cond (tookBlock a) (joinedBy (requestBlock (r .block1)) old (r .payload)) old
-takenBy (response r) a old = old
+abbrev pub takenBy : Config → What → Answer → List ℕ → List ℕ
+takenBy c (request r) a old = cond (tookBlock a) (joinedBy (requestBlock c (r .block1)) old (r .payload)) old
+takenBy c (response r) a old = old
 
-abbrev pub takenOn : List ℕ → List ℕ → Call → Answer → List ℕ
-takenOn k old q a = cond (same k (q .key)) (takenBy (q .what) a old) old
+abbrev pub takenOn : Config → List ℕ → List ℕ → Call → Answer → List ℕ
+takenOn c k old q a = cond (same k (q .key)) (takenBy c (q .what) a old) old
 
 -- What was taken for key k in these calls, each from what the call before it left, from the last block 0 that was taken on.
 abbrev pub allTaken : Handler → Config → World → List ℕ → List ℕ → List Call → List ℕ
 allTaken h c w k old [] = old
-allTaken h c w k old (q ∷ calls) = allTaken h c (h c w q .world) k (takenOn k old q (h c w q .answer)) calls
+allTaken h c w k old (q ∷ calls) = allTaken h c (h c w q .world) k (takenOn c k old q (h c w q .answer)) calls
 
 unfoldable pub HandsWhatWasTaken : Handler → Type 0
 HandsWhatWasTaken h =
