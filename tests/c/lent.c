@@ -8,11 +8,21 @@
 /* These are in liblent.a, and in no header of the library: a C program calls block_handler_request and block_handler_response, which make the checks too. */
 size_t block_handler_find_and_free(
     struct block_handler_entry *entries, size_t entries_len, uint64_t lifetime, uint64_t time, const uint8_t *key, size_t key_len);
+struct request_numbers {
+    uint64_t time;
+    size_t bare;
+    bool block1, block2;
+};
+struct response_numbers {
+    uint64_t time;
+    size_t bare;
+    bool own;
+};
 struct block_handler_reply block_handler_lent_request(struct block_handler_entry *e, struct block_handler_config config, size_t home, size_t away,
-    uint64_t time, uint8_t *piece, size_t piece_len, size_t bare, bool given1, const uint8_t *block1, size_t block1_len,
-    bool given2, const uint8_t *block2, size_t block2_len, const uint8_t *payload, size_t payload_len);
-struct block_handler_reply block_handler_lent_response(struct block_handler_entry *e, struct block_handler_config config, uint64_t time,
-    uint8_t *piece, size_t piece_len, size_t bare, bool own, const uint8_t *head, size_t head_len, const uint8_t *payload, size_t payload_len);
+    uint8_t *piece, size_t piece_len, struct request_numbers numbers, const uint8_t *block1, size_t block1_len,
+    const uint8_t *block2, size_t block2_len, const uint8_t *payload, size_t payload_len);
+struct block_handler_reply block_handler_lent_response(struct block_handler_entry *e, struct block_handler_config config,
+    uint8_t *piece, size_t piece_len, struct response_numbers numbers, const uint8_t *head, size_t head_len, const uint8_t *payload, size_t payload_len);
 
 #define U 160
 #define V 96
@@ -137,10 +147,11 @@ static struct block_handler_entry started(const struct call *q)
 static struct block_handler_reply on_entry(struct block_handler_entry *e, size_t place, const struct call *q)
 {
     if (q->response)
-        return block_handler_lent_response(e, config, q->time, lent.response + place * V, V, q->bare, q->own, q->head, q->head_len,
-            q->payload, q->payload_len);
-    return block_handler_lent_request(e, config, place * U, place * V, q->time, lent.upload + place * U, U, q->bare,
-        q->given1, q->block1.bytes, q->block1.len, q->given2, q->block2.bytes, q->block2.len, q->payload, q->payload_len);
+        return block_handler_lent_response(e, config, lent.response + place * V, V, (struct response_numbers){q->time, q->bare, q->own},
+            q->head, q->head_len, q->payload, q->payload_len);
+    return block_handler_lent_request(e, config, place * U, place * V, lent.upload + place * U, U,
+        (struct request_numbers){q->time, q->bare, q->given1, q->given2}, q->block1.bytes, q->block1.len, q->block2.bytes, q->block2.len,
+        q->payload, q->payload_len);
 }
 
 /* Checks 2 and 3 are this caller's; every call here keeps to the limits, and so does the table. Where the walk finds no place, sixteen keys are live, and
@@ -278,16 +289,18 @@ static bool left_alone(struct block_handler_reply reply, const struct block_hand
 static bool request_refused(struct block_handler_entry e, size_t home, size_t away, size_t len)
 {
     static const uint8_t block1[1] = {0x08}, payload[16];
+    static const struct request_numbers numbers = {10, 20, true, false};
     entry = e;
-    return left_alone(block_handler_lent_request(&entry, config, home, away, 10, piece, len, 20, true, block1, 1, false, block1, 0, payload, 16), &e);
+    return left_alone(block_handler_lent_request(&entry, config, home, away, piece, len, numbers, block1, 1, block1, 0, payload, 16), &e);
 }
 
 static bool response_refused(struct block_handler_entry e, size_t len, size_t head_len)
 {
     static const uint8_t head[129], payload[60];
+    static const struct response_numbers numbers = {10, 20, false};
     entry = e;
     e.state.recorded = entry.state.recorded = (struct block_handler_block){.given = true};
-    return left_alone(block_handler_lent_response(&entry, config, 10, piece, len, 20, false, head, head_len, payload, 60), &e);
+    return left_alone(block_handler_lent_response(&entry, config, piece, len, numbers, head, head_len, payload, 60), &e);
 }
 
 static bool both_refused(struct block_handler_entry e)

@@ -1,4 +1,6 @@
 // The lent forms of document 01: one key's entry by `&mut`, and the table's entries as a lent row.
+use block_state::RequestNumbers;
+use block_state::ResponseNumbers;
 use config::Config;
 use entries::Entry;
 use replies::Reply;
@@ -35,16 +37,14 @@ pub extern "C" fn block_handler_lent_request<'a>(
     config: Config,
     home: usize,
     away: usize,
-    time: u64,
     piece: &mut [u8],
-    bare: usize,
-    given1: bool,
+    numbers: RequestNumbers,
     block1: &'a [u8],
-    given2: bool,
     block2: &'a [u8],
     payload: &'a [u8],
 ) -> Reply
-    ensures { λ r. ⌜ Leaves (requestLent config home away time (now (e .entry)) (now (piece .entry)) (asking bare given1 (now (block1 .entry)) given2 (now (block2 .entry)) (now (payload .entry)))) (now (e .exit)) (now (piece .exit)) r ⌝ }
+    ensures { λ r. ⌜ Leaves (requestLent config home away (numbers .time) (now (e .entry)) (now (piece .entry))
+        (asking numbers (now (block1 .entry)) (now (block2 .entry)) (now (payload .entry)))) (now (e .exit)) (now (piece .exit)) r ⌝ }
 {
     let old = *e;
     let out = steps::request(
@@ -52,12 +52,9 @@ pub extern "C" fn block_handler_lent_request<'a>(
         config,
         home,
         away,
-        time,
         piece,
-        bare,
-        given1,
+        numbers,
         block1,
-        given2,
         block2,
         payload,
     );
@@ -70,17 +67,16 @@ pub extern "C" fn block_handler_lent_request<'a>(
 pub extern "C" fn block_handler_lent_response<'a>(
     e: &mut Entry,
     config: Config,
-    time: u64,
     piece: &mut [u8],
-    bare: usize,
-    own: bool,
+    numbers: ResponseNumbers,
     head: &'a [u8],
     payload: &'a [u8],
 ) -> Reply
-    ensures { λ r. ⌜ Leaves (responseLent config time (now (e .entry)) (now (piece .entry)) (replying bare own (now (head .entry)) (now (payload .entry)))) (now (e .exit)) (now (piece .exit)) r ⌝ }
+    ensures { λ r. ⌜ Leaves (responseLent config (numbers .time) (now (e .entry)) (now (piece .entry))
+        (replying numbers (now (head .entry)) (now (payload .entry)))) (now (e .exit)) (now (piece .exit)) r ⌝ }
 {
     let old = *e;
-    let out = steps::response(old, config, time, piece, bare, own, head, payload);
+    let out = steps::response(old, config, piece, numbers, head, payload);
     *e = out.entry;
     out.reply
 }

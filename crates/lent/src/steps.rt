@@ -1,6 +1,8 @@
 // A call's step on an entry by value, with the answer in numbers.
 use crate::Outcome;
 use block_state::Answer;
+use block_state::RequestNumbers;
+use block_state::ResponseNumbers;
 use block_state::Stepped;
 use block_state::limits;
 use config::Config;
@@ -62,53 +64,39 @@ pub fn request<'a>(
     config: Config,
     home: usize,
     away: usize,
-    time: u64,
     piece: &mut [u8],
-    bare: usize,
-    given1: bool,
+    numbers: RequestNumbers,
     block1: &'a [u8],
-    given2: bool,
     block2: &'a [u8],
     payload: &'a [u8],
 ) -> Outcome
-    ensures { λ r. ⌜ Leaves (requestLent config home away time e (now (piece .entry)) (asking bare given1 (now (block1 .entry)) given2 (now (block2 .entry)) (now (payload .entry)))) (r .entry) (now (piece .exit)) (r .reply) ⌝ }
+    ensures { λ r. ⌜ Leaves (requestLent config home away (numbers .time) e (now (piece .entry))
+        (asking numbers (now (block1 .entry)) (now (block2 .entry)) (now (payload .entry)))) (r .entry) (now (piece .exit)) (r .reply) ⌝ }
 {
-    if !request_room(config, home, away, time, e, piece.len()) {
+    if !request_room(config, home, away, numbers.time, e, piece.len()) {
         return refused(e);
     }
     let state = e.state;
-    let step = request_step::step_request(
-        config,
-        home,
-        away,
-        state,
-        piece,
-        bare,
-        given1,
-        block1,
-        given2,
-        block2,
-        payload,
-    );
-    touched(e, time, step)
+    let asked = request_step::read_options(config, numbers, block1, block2);
+    let step = request_step::step_request(config, home, away, state, piece, asked, payload);
+    touched(e, numbers.time, step)
 }
 
 pub fn response<'a>(
     e: Entry,
     config: Config,
-    time: u64,
     piece: &mut [u8],
-    bare: usize,
-    own: bool,
+    numbers: ResponseNumbers,
     head: &'a [u8],
     payload: &'a [u8],
 ) -> Outcome
-    ensures { λ r. ⌜ Leaves (responseLent config time e (now (piece .entry)) (replying bare own (now (head .entry)) (now (payload .entry)))) (r .entry) (now (piece .exit)) (r .reply) ⌝ }
+    ensures { λ r. ⌜ Leaves (responseLent config (numbers .time) e (now (piece .entry))
+        (replying numbers (now (head .entry)) (now (payload .entry)))) (r .entry) (now (piece .exit)) (r .reply) ⌝ }
 {
-    if !response_room(config, time, e, piece.len(), head.len()) {
+    if !response_room(config, numbers.time, e, piece.len(), head.len()) {
         return refused(e);
     }
     let state = e.state;
-    let step = response_step::step_response(config, state, piece, bare, own, head, payload);
-    touched(e, time, step)
+    let step = response_step::step_response(config, state, piece, numbers, head, payload);
+    touched(e, numbers.time, step)
 }

@@ -59,7 +59,7 @@ use Rattle.lent.specs.Row.{seenNext}
 use Rattle.lent.proofs.Seen as Q
 use Rattle.lent.proofs.Seen.Laws as Q′
 use Rattle.lent.proofs.Sweeps.{one-more, upto, upto-length, upto-next, upto-all, upto-at, map-length, seenOf, seen-next, seen-all, bytes-fit}
-use Rattle.lent.proofs.Lending.{also, gone}
+use Rattle.walks.proofs.Locals.{also, gone}
 use Rattle.lent.proofs.Turns.{Swept, See, Key, sight, sweeps, sees}
 use Rattle.entries.proofs.swept_entry.Symbol as swept-def
 use Rattle.entries.proofs.swept_entry.Symbol.{name as #swept}

@@ -1,0 +1,4 @@
+pub mod Told
+pub mod Locals
+pub mod Regrouped
+pub mod Borrowed
