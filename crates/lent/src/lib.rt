@@ -86,8 +86,7 @@ fn holds_key(e: Entry, key: &[u8]) -> bool
 {
     if e.used {
         let stored = e.key;
-        let bytes = stored.bytes;
-        return keys::same_key(key, bytes, keys::size(stored.len));
+        return keys::same_as(key, stored);
     }
     false
 }
