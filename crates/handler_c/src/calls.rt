@@ -1,5 +1,7 @@
 // What the two calls change of a table by value, with the answer in numbers.
 use crate::Outcome;
+use block_state::RequestNumbers;
+use block_state::ResponseNumbers;
 use block_table::Table;
 use config::Config;
 ghost use Rattle.block_handler.specs.Contract.{world, requestCall, responseCall, changed};
@@ -10,28 +12,24 @@ pub fn request<'a>(
     config: Config,
     upload: &mut [u8],
     response: &'a [u8],
-    time: u64,
+    numbers: RequestNumbers,
     key: &'a [u8],
-    bare: usize,
-    given1: bool,
     block1: &'a [u8],
-    given2: bool,
     block2: &'a [u8],
     payload: &'a [u8],
 ) -> Outcome
-    ensures { λ r. ⌜ Replies config (world table (now (upload .entry)) (now (response .entry))) (requestCall time (now (key .entry)) bare given1 (now (block1 .entry)) given2 (now (block2 .entry)) (now (payload .entry))) (world (changed (config .lifetime) time table (r .change)) (now (upload .exit)) (now (response .entry))) (r .reply) ⌝ }
+    ensures { λ r. ⌜ Replies config (world table (now (upload .entry)) (now (response .entry)))
+        (requestCall numbers (now (key .entry)) (now (block1 .entry)) (now (block2 .entry)) (now (payload .entry)))
+        (world (changed (config .lifetime) (numbers .time) table (r .change)) (now (upload .exit)) (now (response .entry))) (r .reply) ⌝ }
 {
     let change = block_handler::request_change(
         config,
         table,
         upload,
         response,
-        time,
+        numbers,
         key,
-        bare,
-        given1,
         block1,
-        given2,
         block2,
         payload,
     );
@@ -47,24 +45,22 @@ pub fn response<'a>(
     config: Config,
     upload: &'a [u8],
     response: &mut [u8],
-    time: u64,
+    numbers: ResponseNumbers,
     key: &'a [u8],
-    bare: usize,
-    own: bool,
     head: &'a [u8],
     payload: &'a [u8],
 ) -> Outcome
-    ensures { λ r. ⌜ Replies config (world table (now (upload .entry)) (now (response .entry))) (responseCall time (now (key .entry)) bare own (now (head .entry)) (now (payload .entry))) (world (changed (config .lifetime) time table (r .change)) (now (upload .entry)) (now (response .exit))) (r .reply) ⌝ }
+    ensures { λ r. ⌜ Replies config (world table (now (upload .entry)) (now (response .entry)))
+        (responseCall numbers (now (key .entry)) (now (head .entry)) (now (payload .entry)))
+        (world (changed (config .lifetime) (numbers .time) table (r .change)) (now (upload .entry)) (now (response .exit))) (r .reply) ⌝ }
 {
     let change = block_handler::response_change(
         config,
         table,
         upload,
         response,
-        time,
+        numbers,
         key,
-        bare,
-        own,
         head,
         payload,
     );

@@ -1,10 +1,14 @@
 // The handler for programs in C and Rust: its calls on a table and memories that the caller owns, with answers as numbers.
 use block_handler::Change;
+use block_state::Recorded;
+use block_state::RequestNumbers;
+use block_state::ResponseNumbers;
+use block_state::state;
 use block_table::Table;
 use block_value::BlockValue;
 use block_value::Reading;
 use config::Config;
-use replies::Block;
+use negotiation::MaybeBlock;
 use replies::Found;
 use replies::Reply;
 ghost use mathlib.Core.Path.{_≡_};
@@ -12,7 +16,7 @@ ghost use Rattle.block_value.specs.Value.{readOf, written};
 ghost use Rattle.block_table.specs.Table.{freshTable};
 ghost use Rattle.block_handler.specs.Contract.{world, requestCall, responseCall};
 ghost use Rattle.replies.specs.Found.{foundIn, bodyIn, servedHeadIn, chunkIn, sentIn};
-ghost use Rattle.handler_c.specs.Options.{blockRead, inTwoBytes};
+ghost use Rattle.handler_c.specs.Options.{plainConfig, blockRead, inTwoBytes};
 ghost use Rattle.handler_c.specs.Contract.{Replies};
 
 mod calls;
@@ -48,26 +52,34 @@ pub extern "C" fn block_handler_fresh() -> Table
     block_table::fresh()
 }
 
+// For an option with no configuration: plain mode's. It makes no difference to what is read and written.
+fn plain_config() -> Config
+    ensures { λ r. ⌜ r ≡ plainConfig ⌝ }
+{
+    config::default_config(false, 0, 0)
+}
+
 // An option's bytes as a block value; one that cannot be read counts as absent.
 #[no_mangle]
-pub extern "C" fn block_handler_read(option: &[u8]) -> Block
-    ensures { λ r. ⌜ r ≡ blockRead (readOf (now (option .entry))) ⌝ }
+pub extern "C" fn block_handler_read(option: &[u8]) -> Recorded
+    ensures { λ r. ⌜ r ≡ blockRead (readOf plainConfig (now (option .entry))) ⌝ }
 {
-    let Reading::Value(block) = block_value::read(option) else {
-        return replies::no_block();
+    let Reading::Value(block) = block_value::read(plain_config(), option) else {
+        return state::recording_of(MaybeBlock::Absent);
     };
-    replies::given(block)
+    state::recording_of(MaybeBlock::Given(block))
 }
 
 #[no_mangle]
 pub extern "C" fn block_handler_write(num: u32, more: bool, exponent: u8) -> OptionBytes
-    ensures { λ r. ⌜ r ≡ inTwoBytes (written (record { num = num; more = more; «size_exponent» = exponent })) ⌝ }
+    ensures { λ r. ⌜ r ≡ inTwoBytes (written plainConfig (record { num = num; more = more; «size_exponent» = exponent })) ⌝ }
 {
-    let option = block_value::write(BlockValue {
+    let block = BlockValue {
         num,
         more,
         size_exponent: exponent,
-    });
+    };
+    let option = block_value::write(plain_config(), block);
     let bytes = option.bytes;
     OptionBytes {
         len: option.len,
@@ -122,20 +134,25 @@ pub extern "C" fn block_handler_request<'a>(
     block2: &'a [u8],
     payload: &'a [u8],
 ) -> Reply
-    ensures { λ r. ⌜ Replies config (world (now (table .entry)) (now (upload .entry)) (now (response .entry))) (requestCall time (now (key .entry)) bare given1 (now (block1 .entry)) given2 (now (block2 .entry)) (now (payload .entry))) (world (now (table .exit)) (now (upload .exit)) (now (response .entry))) r ⌝ }
+    ensures { λ r. ⌜ Replies config (world (now (table .entry)) (now (upload .entry)) (now (response .entry)))
+        (requestCall (record { time = time; bare = bare; block1 = given1; block2 = given2 }) (now (key .entry)) (now (block1 .entry)) (now (block2 .entry)) (now (payload .entry)))
+        (world (now (table .exit)) (now (upload .exit)) (now (response .entry))) r ⌝ }
 {
     let old = *table;
+    let numbers = RequestNumbers {
+        time,
+        bare,
+        block1: given1,
+        block2: given2,
+    };
     let out = calls::request(
         old,
         config,
         upload,
         response,
-        time,
+        numbers,
         key,
-        bare,
-        given1,
         block1,
-        given2,
         block2,
         payload,
     );
@@ -157,21 +174,13 @@ pub extern "C" fn block_handler_response<'a>(
     head: &'a [u8],
     payload: &'a [u8],
 ) -> Reply
-    ensures { λ r. ⌜ Replies config (world (now (table .entry)) (now (upload .entry)) (now (response .entry))) (responseCall time (now (key .entry)) bare own (now (head .entry)) (now (payload .entry))) (world (now (table .exit)) (now (upload .entry)) (now (response .exit))) r ⌝ }
+    ensures { λ r. ⌜ Replies config (world (now (table .entry)) (now (upload .entry)) (now (response .entry)))
+        (responseCall (record { time = time; bare = bare; own = own }) (now (key .entry)) (now (head .entry)) (now (payload .entry)))
+        (world (now (table .exit)) (now (upload .entry)) (now (response .exit))) r ⌝ }
 {
     let old = *table;
-    let out = calls::response(
-        old,
-        config,
-        upload,
-        response,
-        time,
-        key,
-        bare,
-        own,
-        head,
-        payload,
-    );
+    let numbers = ResponseNumbers { time, bare, own };
+    let out = calls::response(old, config, upload, response, numbers, key, head, payload);
     lent_table::store_change(table, config.lifetime, time, out.change);
     out.reply
 }

@@ -6,4 +6,4 @@ returns : tie.Need-returns
 returns c = rw (c .before .write .ensures)
 
 pub block-handler-write-spec : {M : Type 1} → statement M
-block-handler-write-spec = tie.close (tie.spec (λ c κs. search needs) returns)
+block-handler-write-spec = tie.close (tie.spec (λ c κs. search needs) (λ c κs. search needs) returns)
