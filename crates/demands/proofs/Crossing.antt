@@ -16,7 +16,7 @@ use Rattle.block_state.specs.declared.Answer.the-variants.{Refused}
 use Rattle.block_state.specs.Message.{What, request, response}
 use Rattle.block_state.specs.State.{assembly}
 use Rattle.pieces.specs.Memory.{pieceOf}
-use Rattle.keys.specs.Keys.{keyOk}
+use Rattle.keys.specs.Keys.{Name, keyOk}
 use Rattle.block_table.proofs.Row.{Unique}
 use Rattle.block_handler.specs.Call.{World, Call, Done, done, whatOk, callAt, rowOf, withinLimits, call}
 use Rattle.block_handler.proofs.Frame.{WorldFits, fits-limits, call-fits, call-placed}
@@ -37,11 +37,11 @@ use Rattle.demands.proofs.Sixteen.{Over, over-call, over-after, has-pla
 abbrev Empty : ℕ → BlockState → Type 0
 Empty i s = s .assembled .len ≡ 0
 
-abbrev Idle : List ℕ → World → Type 0
+abbrev Idle : Name → World → Type 0
 Idle k w = Known w k Empty
 
 -- nor after any call that is no request on the key
-module _ (c : Config) (w : World) (k : List ℕ) (q : Call) (f : WorldFits c w) (other : asks k q ≡ false) (idle : Idle k w) where
+module _ (c : Config) (w : World) (k : Name) (q : Call) (f : WorldFits c w) (other : asks k q ≡ false) (idle : Idle k w) where
   abbrev here : ℕ
   here = placeOf c w q
 
@@ -55,13 +55,13 @@ module _ (c : Config) (w : World) (k : List ℕ) (q : Call) (f : WorldFits c w) 
   idle-any : Idle k (call c w q .world)
   idle-any = early-or-placed (λ (d : Done). Idle k (d .world)) c w q (λ n h. idle) (λ ok later b. idle-placed b (q .what) refl)
 
-idle-others : (c : Config) (k : List ℕ) (calls : List Call) (w : World) → WorldFits c w → AllBytes calls → requestsOn k calls ≡ [] → Idle k w → Idle k (after call c w calls)
+idle-others : (c : Config) (k : Name) (calls : List Call) (w : World) → WorldFits c w → AllBytes calls → requestsOn k calls ≡ [] → Idle k w → Idle k (after call c w calls)
 idle-others c k [] w f ab none idle = idle
 idle-others c k (q ∷ calls) w f ab none idle =
     by-cases (asks k q) (λ y. absurd (cons≢nil (rw y at none)))
     (λ n. idle-others c k calls (call c w q .world) (call-fits c w q (ab .0) f) (ab .1) (rw n at none) (idle-any c w k q f n idle))
 
-settled-idle : (c : Config) (w : World) (k : List ℕ) (i last : ℕ) → Held c w k i last → entryAt w i .state .assembled ≡ assembly 0 0 → Idle k w
+settled-idle : (c : Config) (w : World) (k : Name) (i last : ℕ) → Held c w k i last → entryAt w i .state .assembled ≡ assembly 0 0 → Idle k w
 unfolding Unique
 settled-idle c w k i last g empty j b h =
     let f = g .fits in
@@ -70,7 +70,7 @@ settled-idle c w k i last g empty j b h =
 
 -- ---- a key's pushes, among calls that count
 
-module _ (c : Config) (k : List ℕ) (keys : List (List ℕ)) (few : length keys ≤ 16) where
+module _ (c : Config) (k : Name) (keys : List Name) (few : length keys ≤ 16) where
   -- what a list of calls that count is, seen from the key
   record Counted (w : World) (calls own : List Call) : Type 0 where
     fits : WorldFits c w
@@ -175,7 +175,7 @@ form-counted t (q ∷ calls) =
     (λ y. rw y (and-left (inForm q) (leb t (q .time)) y, form-counted (q .time) calls))
     (λ n. rw n (form-counted t calls))
 
-module _ (c : Config) (keys : List (List ℕ)) (few : length keys ≤ 16) where
+module _ (c : Config) (keys : List Name) (few : length keys ≤ 16) where
   -- a call that counts is placed, and sets the clock
   clock-counted : (w : World) (q : Call) → WorldFits c w → Over keys w → among (q .key) keys ≡ true → counts (w .table .clock) q ≡ true
       → call c w q .world .table .clock ≡ q .time
@@ -192,7 +192,7 @@ module _ (c : Config) (keys : List (List ℕ)) (few : length keys ≤ 16) where
       at-clock (response r) = refl
 
   -- what is seen of the calls that count is what is seen of them alone, and the others are refused
-  traceless : (k : List ℕ) (calls : List Call) (w : World) → WorldFits c w → Over keys w → AllBytes calls → AllAmong keys (counted (w .table .clock) calls)
+  traceless : (k : Name) (calls : List Call) (w : World) → WorldFits c w → Over keys w → AllBytes calls → AllAmong keys (counted (w .table .clock) calls)
       → (seenCounted k call c w (w .table .clock) calls ≡ runOn k call c w (counted (w .table .clock) calls))
       × UncountedRefused call c w (w .table .clock) calls
   traceless k [] w f over ab aa = (refl, tt)
@@ -211,17 +211,17 @@ module _ (c : Config) (keys : List (List ℕ)) (few : length keys ≤ 16) where
 
 -- ---- from a fresh table
 
-module _ (c : Config) (w : World) (keys : List (List ℕ)) (calls : List Call) (g : FromFresh c w keys calls) where
+module _ (c : Config) (w : World) (keys : List Name) (calls : List Call) (g : FromFresh c w keys calls) where
   fresh-over : Over keys w
   fresh-over i b u = absurd (false≢true (rw (fresh-entry w (g .start .table) i b) at u))
 
-  fresh-idle : (k : List ℕ) → Idle k w
+  fresh-idle : (k : Name) → Idle k w
   fresh-idle k i b h = rw (fresh-entry w (g .start .table) i b)
 
   fresh-clock : w .table .clock ≡ 0
   fresh-clock = rw (g .start .table)
 
-  fresh-traceless : (k : List ℕ) → (seenCounted k call c w 0 calls ≡ runOn k call c w (counted 0 calls)) × UncountedRefused call c w 0 calls
+  fresh-traceless : (k : Name) → (seenCounted k call c w 0 calls ≡ runOn k call c w (counted 0 calls)) × UncountedRefused call c w 0 calls
   fresh-traceless k =
       subst (λ (t : ℕ). (seenCounted k call c w t calls ≡ runOn k call c w (counted t calls)) × UncountedRefused call c w t calls) fresh-clock
       (traceless c keys (g .sixteen) k calls w (fresh-fits c w (g .start)) fresh-over (g .bytes) (rw fresh-clock (g .over)))

@@ -5,7 +5,7 @@ use mathlib.Core.Path.{_≡_, refl, sym, _∙_, subst}
 use mathlib.Core.List.{List, [], _∷_, map, append-nil}
 use lib.ListN.{length}
 use Rattle.config.specs.declared.Config.{Config}
-use Rattle.keys.specs.Keys.{same}
+use Rattle.keys.specs.Keys.{Name, same}
 use Rattle.keys.proofs.Keys.{same-refl}
 use Rattle.block_handler.specs.Call.{World, Call, call}
 use Rattle.block_handler.proofs.Frame.{world-fits, key-within}
@@ -16,7 +16,7 @@ use Rattle.demands.proofs.Runs.{asks-own, only-asks, own-requests, own-
 use Rattle.demands.proofs.Push.{Pushed, place-first, ready-first, push-from, firstOf, blocks-follow}
 
 -- a push as demand 3 has it, once its last block was taken
-pub pushed : (c : Config) (w : World) (k : List ℕ) (x : ℕ) (first : Sent) (rest : List Sent) (later : List Call) → GrantedOwn c w k x first rest later
+pub pushed : (c : Config) (w : World) (k : Name) (x : ℕ) (first : Sent) (rest : List Sent) (later : List Call) → GrantedOwn c w k x first rest later
     → Pushed c w k (lastOf first rest .time) (length (first ∷ rest)) (joined first rest) [] (callOn k first ∷ later)
 pushed c w k x first rest later g =
     let p = g .push in

@@ -9,7 +9,7 @@ use Rattle.pieces.specs.Memory.{pieceOf}
 use Rattle.pieces.proofs.Tests.{ands, by-cases}
 use Rattle.config.specs.declared.Config.{Config}
 use Rattle.block_state.specs.Message.{Response, What, request, response, WhatBytes}
-use Rattle.keys.specs.Keys.{same, keyOf}
+use Rattle.keys.specs.Keys.{Name, same, keyOf}
 use Rattle.keys.proofs.Keys.{same-refl, same-eq}
 use Rattle.entries.specs.declared.Entry.{Entry}
 use Rattle.entries.specs.Entries.{holds, live}
@@ -31,7 +31,7 @@ unfolding configOk
 lifetime-least c h = leb-true 1 (c .lifetime) (search ands)
 
 -- entry i is in use for the key, and was touched at `last` or later
-pub record Held (c : Config) (w : World) (k : List ℕ) (i last : ℕ) : Type 0 where
+pub record Held (c : Config) (w : World) (k : Name) (i last : ℕ) : Type 0 where
   pub fits : WorldFits c w
   pub slot : i < 16
   pub held : holds k (entryAt w i) ≡ true
@@ -42,7 +42,7 @@ pub record Kept (c : Config) (w v : World) (i : ℕ) : Type 0 where
   pub assembled : entryAt v i .state .assembled ≡ entryAt w i .state .assembled
   pub upload : pieceOf (c .upload) i (v .upload) ≡ pieceOf (c .upload) i (w .upload)
 
-module _ (c : Config) (w : World) (k : List ℕ) (i last : ℕ) (g : Held c w k i last) where
+module _ (c : Config) (w : World) (k : Name) (i last : ℕ) (g : Held c w k i last) where
   lives : (time : ℕ) → time < last + c .lifetime → live (c .lifetime) time (entryAt w i) ≡ true
   lives time soon =
       used-live (c .lifetime) time (entryAt w i) (holds-used k (entryAt w i) (g .held)) (omega (arith, g .touched, lifetime-least c (g .fits .config)))
@@ -113,7 +113,7 @@ module _ (c : Config) (w : World) (k : List ℕ) (i last : ℕ) (g : Held c w k 
           )
 
 -- any number of calls that are no requests on the key, none later than `end`, leave what is assembled
-pub held-others : (c : Config) (k : List ℕ) (i last end : ℕ) → end < last + c .lifetime → (calls : List Call) (w : World) → Held c w k i last → AllBytes calls
+pub held-others : (c : Config) (k : Name) (i last end : ℕ) → end < last + c .lifetime → (calls : List Call) (w : World) → Held c w k i last → AllBytes calls
     → All (λ q. q .time ≤ end) calls → requestsOn k calls ≡ [] → Kept c w (after call c w calls) i × Held c (after call c w calls) k i last
 held-others c k i last end soon [] w g ab nl own = (record { assembled = refl; upload = refl }, g)
 held-others c k i last end soon (q ∷ calls) w g ab nl own =

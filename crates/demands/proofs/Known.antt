@@ -10,7 +10,7 @@ use Rattle.pieces.proofs.Tests.{by-cases, on-test, clash-of}
 use Rattle.config.specs.declared.Config.{Config}
 use Rattle.block_state.specs.declared.BlockState.{BlockState}
 use Rattle.block_state.specs.State.{nothing}
-use Rattle.keys.specs.Keys.{same}
+use Rattle.keys.specs.Keys.{Name, same}
 use Rattle.keys.proofs.Keys.{same-eq}
 use Rattle.entries.specs.declared.Entry.{Entry}
 use Rattle.entries.specs.Entries.{free, inUse, holds, live, swept}
@@ -25,13 +25,13 @@ use Rattle.demands.specs.Demand3.{entryAt}
 use Rattle.demands.proofs.Outcomes.{placeOf, openedOf}
 
 -- In this row, P holds of the number and the state of every entry that is the key's.
-abbrev pub KnownIn : List Entry → List ℕ → (ℕ → BlockState → Type 0) → Type 0
+abbrev pub KnownIn : List Entry → Name → (ℕ → BlockState → Type 0) → Type 0
 KnownIn l k P = (i : ℕ) → i < 16 → holds k (at l i) ≡ true → P i (at l i .state)
 
-abbrev pub Known : World → List ℕ → (ℕ → BlockState → Type 0) → Type 0
+abbrev pub Known : World → Name → (ℕ → BlockState → Type 0) → Type 0
 Known w k P = KnownIn (w .table .entries) k P
 
-module _ (c : Config) (w : World) (q : Call) (k : List ℕ) (f : WorldFits c w) (P : ℕ → BlockState → Type 0) (known : Known w k P) where
+module _ (c : Config) (w : World) (q : Call) (k : Name) (f : WorldFits c w) (P : ℕ → BlockState → Type 0) (known : Known w k P) where
   abbrev found : List Entry
   found = rowOf c w q
 

@@ -29,7 +29,7 @@ use Rattle.block_state.specs.declared.Answer.the-variants.{Continue, TooLarge, 
 use Rattle.block_state.specs.Message.{Request, Response, What, request, response}
 use Rattle.block_state.specs.State.{keptWhile}
 use Rattle.block_state.specs.Step.{Left, left, bytesFrom}
-use Rattle.keys.specs.Keys.{same}
+use Rattle.keys.specs.Keys.{Name, same}
 use Rattle.keys.proofs.Keys.{same-refl}
 use Rattle.entries.specs.declared.Entry.{Entry}
 use Rattle.entries.specs.Entries.{inUse}
@@ -107,7 +107,7 @@ record Caches (c : Config) (mem : List ℕ) (i : ℕ) (y : Cached) (p : Option P
 abbrev Paged : Config → List ℕ → Option Page → ℕ → BlockState → Type 0
 Paged c mem p i s = s .cached .held ≡ true → Caches c mem i (s .cached) p
 
-abbrev AllPaged : Config → World → List ℕ → Option Page → Type 0
+abbrev AllPaged : Config → World → Name → Option Page → Type 0
 AllPaged c w k p = Known w k (Paged c (w .response) p)
 
 caches-moved : (c : Config) (mem mem′ : List ℕ) (i : ℕ) (y : Cached) (p : Option Page) → pieceOf (c .response) i mem′ ≡ pieceOf (c .response) i mem
@@ -119,7 +119,7 @@ piece-self : (u i : ℕ) (m : List ℕ) → i * u + u ≤ length m → putPiece 
 unfolding pieceOf putPiece
 piece-self u i m h = patch-self m (i * u) u h
 
-module _ (c : Config) (w : World) (q : Call) (k : List ℕ) (p : Option Page) (f : WorldFits c w) (known : AllPaged c w k p) where
+module _ (c : Config) (w : World) (q : Call) (k : Name) (p : Option Page) (f : WorldFits c w) (known : AllPaged c w k p) where
   abbrev here : ℕ
   here = placeOf c w q
 
@@ -204,7 +204,7 @@ module _ (c : Config) (w : World) (q : Call) (k : List ℕ) (p : Option Page) (f
 
 -- ---- runs
 
-known-run : (c : Config) (k : List ℕ) (calls : List Call) (w : World) (p : Option Page) → WorldFits c w → AllBytes calls → AllPaged c w k p
+known-run : (c : Config) (k : Name) (calls : List Call) (w : World) (p : Option Page) → WorldFits c w → AllBytes calls → AllPaged c w k p
     → AllPaged c (after call c w calls) k (lastStored call c w k p calls)
 known-run c k [] w p f ab known = known
 known-run c k (q ∷ calls) w p f ab known = known-run c k calls (call c w q .world) (noted k p q (call c w q .answer)) (call-fits c w q (ab .0) f) (ab .1) (known-call c w q k p f known)

@@ -25,7 +25,7 @@ use Rattle.block_state.specs.State.{assembly}
 use Rattle.block_state.specs.Step.{bytesFrom}
 use Rattle.request_step.specs.Step.{stepRequest}
 use Rattle.keys.specs.Lists.{find}
-use Rattle.keys.specs.Keys.{keyOk}
+use Rattle.keys.specs.Keys.{Name, keyOk}
 use Rattle.keys.proofs.Lists.{find-at-most}
 use Rattle.keys.proofs.Keys.{same-refl}
 use Rattle.entries.specs.declared.Entry.{Entry}
@@ -64,7 +64,7 @@ message-ok c r b ok one =
     (le-leb (length (r .payload)) 65535 (omega (arith, fills-most c b r one, size-most (b .«size_exponent»))))
 
 -- a row with an entry that is not in use has a place for every key
-place-free : (k : List ℕ) (l : List Entry) (i : ℕ) → length l ≡ 16 → i < 16 → at l i .used ≡ false → place k l < 16
+place-free : (k : Name) (l : List Entry) (i : ℕ) → length l ≡ 16 → i < 16 → at l i .used ≡ false → place k l < 16
 unfolding place
 place-free k l i long b h =
     let m : find unused l ≤ i = find-at-most unused free l i (omega arith) (rw h) in
@@ -79,14 +79,14 @@ shown-part m u i n h k =
 
 -- ---- block b has come: it has a place, and the entry there meets it with these bytes
 
-pub record Ready (c : Config) (w : World) (k : List ℕ) (time : ℕ) (bytes : List ℕ) (b : BlockValue) : Type 0 where
+pub record Ready (c : Config) (w : World) (k : Name) (time : ℕ) (bytes : List ℕ) (b : BlockValue) : Type 0 where
   pub fits : WorldFits c w
   pub later : w .table .clock ≤ time
   pub placed : place k (row c (w .table) time) < 16
   pub meets : Meets c (opened k (row c (w .table) time) .state .assembled) (pieceOf (c .upload) (place k (row c (w .table) time)) (w .upload)) bytes b
 
 -- a later block: the upload is under way in the key's entry
-ready-next : (c : Config) (w : World) (k : List ℕ) (i last time : ℕ) (bytes : List ℕ) (b : BlockValue) → Held c w k i last
+ready-next : (c : Config) (w : World) (k : Name) (i last time : ℕ) (bytes : List ℕ) (b : BlockValue) → Held c w k i last
     → UnderWay (entryAt w i .state .assembled) (pieceOf (c .upload) i (w .upload)) bytes b → w .table .clock ≤ time → time < last + c .lifetime
     → Ready c w k time bytes b
 ready-next c w k i last time bytes b g way later soon =
@@ -94,7 +94,7 @@ ready-next c w k i last time bytes b g way later soon =
     record { fits = g .fits; later = later; placed = rw p (g .slot); meets = meets-next c _ _ bytes b (rw (held-opened c w k i last g time soon, p) way) }
 
 -- the first: it has a place, and meets nothing assembled, or in strict mode starts afresh
-module _ (c : Config) (w : World) (k : List ℕ) (time : ℕ) (f : WorldFits c w) (later : w .table .clock ≤ time) where
+module _ (c : Config) (w : World) (k : Name) (time : ℕ) (f : WorldFits c w) (later : w .table .clock ≤ time) where
   abbrev found : List Entry
   found = row c (w .table) time
 
@@ -127,7 +127,7 @@ module _ (c : Config) (w : World) (k : List ℕ) (time : ℕ) (f : WorldFits c w
 
 -- ---- a block of the client's
 
-module _ (c : Config) (w : World) (k : List ℕ) (b : BlockValue) (s : Sent) (bytes : List ℕ) (g : Ready c w k (s .time) bytes b)
+module _ (c : Config) (w : World) (k : Name) (b : BlockValue) (s : Sent) (bytes : List ℕ) (g : Ready c w k (s .time) bytes b)
     (named : keyOk k ≡ true) (hb : WhatBytes (request (s .message))) (one : OneBlock c b (s .message))
     (fit : length (bytes ++ s .message .payload) ≤ c .upload) where
   abbrev entries : List Entry
@@ -190,7 +190,7 @@ module _ (c : Config) (w : World) (k : List ℕ) (b : BlockValue) (s : Sent) (by
 
 -- The calls fall into `front`, which ends with the push's last block, and `behind`, where the key's own calls are `tail`. What is seen of the key's calls in `front`
 -- hands on these bytes; then the key's entry has nothing assembled, and its last call was at `last`.
-pub record Pushed (c : Config) (w : World) (k : List ℕ) (last n : ℕ) (bytes : List ℕ) (tail calls : List Call) : Type 0 where
+pub record Pushed (c : Config) (w : World) (k : Name) (last n : ℕ) (bytes : List ℕ) (tail calls : List Call) : Type 0 where
   pub front : List Call
   pub behind : List Call
   pub is : calls ≡ front ++ behind
@@ -203,7 +203,7 @@ pub record Pushed (c : Config) (w : World) (k : List ℕ) (last n : ℕ) (bytes 
   pub rising : OwnRising k last behind
   pub own : requestsOn k behind ≡ tail
 
-module _ (c : Config) (w : World) (k : List ℕ) (last n : ℕ) (bytes : List ℕ) (tail calls : List Call) where
+module _ (c : Config) (w : World) (k : Name) (last n : ℕ) (bytes : List ℕ) (tail calls : List Call) where
   -- other keys' calls before it
   pub pass : (before : List Call) → requestsOn k before ≡ [] → Pushed c (after call c w before) k last n bytes tail calls
       → Pushed c w k last n bytes tail (before ++ calls)
@@ -254,7 +254,7 @@ Follow c b s (t ∷ rest) =
     OneBlock c b (s .message) × (b .more ≡ true)
     × (n : BlockValue) × NextAt (blockStart b + length (s .message .payload)) (b .«size_exponent») n × Follow c n t rest
 
-module _ (c : Config) (k : List ℕ) (named : keyOk k ≡ true) where
+module _ (c : Config) (k : Name) (named : keyOk k ≡ true) where
   -- what is to be shown of a block with these behind it
   abbrev pub From : List Sent → Type 0
   From rest =

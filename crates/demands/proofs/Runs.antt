@@ -9,7 +9,7 @@ use borrow.Author.Tests.{eqb-true}
 use Rattle.pieces.proofs.Tests.{ands, by-cases}
 use Rattle.config.specs.declared.Config.{Config}
 use Rattle.block_state.specs.Message.{What, request, response}
-use Rattle.keys.specs.Keys.{same}
+use Rattle.keys.specs.Keys.{Name, same}
 use Rattle.keys.proofs.Keys.{same-refl}
 use Rattle.entries.specs.Entries.{free}
 use Rattle.block_table.specs.Table.{freshTable}
@@ -35,27 +35,27 @@ pub after-cut : (h : Handler) (c : Config) (a b : List Call) (w : World) → aft
 after-cut h c [] b w = refl
 after-cut h c (q ∷ a) b w = after-cut h c a b (h c w q .world)
 
-pub seen-cut : (h : Handler) (c : Config) (k : List ℕ) (a b : List Call) (w : World) → runOn k h c w (a ++ b) ≡ runOn k h c w a ++ runOn k h c (after h c w a) b
+pub seen-cut : (h : Handler) (c : Config) (k : Name) (a b : List Call) (w : World) → runOn k h c w (a ++ b) ≡ runOn k h c w a ++ runOn k h c (after h c w a) b
 seen-cut h c k [] b w = refl
 seen-cut h c k (q ∷ a) b w =
     let rest = seen-cut h c k a b (h c w q .world) in
     by-cases (asks k q) (λ y. rw (y, rest)) (λ n. rw (n, rest))
 
-pub none-seen : (h : Handler) (c : Config) (k : List ℕ) (calls : List Call) (w : World) → requestsOn k calls ≡ [] → runOn k h c w calls ≡ []
+pub none-seen : (h : Handler) (c : Config) (k : Name) (calls : List Call) (w : World) → requestsOn k calls ≡ [] → runOn k h c w calls ≡ []
 none-seen h c k [] w e = refl
 none-seen h c k (q ∷ calls) w e =
     by-cases (asks k q) (λ y. absurd (cons≢nil (rw y at e))) (λ n. rw n (none-seen h c k calls (h c w q .world) (rw n at e)))
 
 -- ---- the key's next request, with the calls before it and behind it
 
-pub record Cut (k : List ℕ) (calls : List Call) (q : Call) (l : List Call) : Type 0 where
+pub record Cut (k : Name) (calls : List Call) (q : Call) (l : List Call) : Type 0 where
   pub before : List Call
   pub behind : List Call
   pub is : calls ≡ before ++ (q ∷ behind)
   pub none : requestsOn k before ≡ []
   pub left : requestsOn k behind ≡ l
 
-pub cut : (k : List ℕ) (calls : List Call) (q : Call) (l : List Call) → requestsOn k calls ≡ q ∷ l → Cut k calls q l
+pub cut : (k : Name) (calls : List Call) (q : Call) (l : List Call) → requestsOn k calls ≡ q ∷ l → Cut k calls q l
 cut k [] q l e = absurd (nil≢cons e)
 cut k (p ∷ calls) q l e =
     by-cases (asks k p)
@@ -67,7 +67,7 @@ cut k (p ∷ calls) q l e =
     record { before = p ∷ g .before; behind = g .behind; is = ap (λ (r : List Call). p ∷ r) (g .is); none = rw n (g .none); left = g .left })
 
 -- the key's next request is not before t, nor before any of those ahead of it
-pub rising-cut : (k : List ℕ) (t : ℕ) (a : List Call) (q : Call) (b : List Call) → asks k q ≡ true → OwnRising k t (a ++ (q ∷ b))
+pub rising-cut : (k : Name) (t : ℕ) (a : List Call) (q : Call) (b : List Call) → asks k q ≡ true → OwnRising k t (a ++ (q ∷ b))
     → (t ≤ q .time) × All (λ p. p .time ≤ q .time) a × OwnRising k (q .time) b
 rising-cut k t [] q b y h =
     let up : t ≤ q .time = h .0 y in
@@ -78,18 +78,18 @@ rising-cut k t (p ∷ a) q b y h =
     (omega (arith, r .0), (omega (arith, r .0), r .1), r .2)
 
 -- a clock that never goes back does not go back at the key's requests
-pub rising-own : (k : List ℕ) (t : ℕ) (calls : List Call) → Rising t calls → OwnRising k t calls
+pub rising-own : (k : Name) (t : ℕ) (calls : List Call) → Rising t calls → OwnRising k t calls
 rising-own k t [] h = tt
 rising-own k t (q ∷ calls) h =
     let latest : max t (q .time) ≡ q .time = omega (arith, h .0) in
     (λ y. h .0, rw latest (rising-own k (q .time) calls (h .1)))
 
 -- a block is a request on its key
-pub asks-own : (k : List ℕ) (s : Sent) → asks k (callOn k s) ≡ true
+pub asks-own : (k : Name) (s : Sent) → asks k (callOn k s) ≡ true
 asks-own k s = rw (same-refl k)
 
 -- where all calls on the key are blocks, its calls are its requests
-pub only-asks : (k : List ℕ) (calls : List Call) (l : List Sent) → callsOn k calls ≡ map (callOn k) l → All (λ q. asks k q ≡ same k (q .key)) calls
+pub only-asks : (k : Name) (calls : List Call) (l : List Sent) → callsOn k calls ≡ map (callOn k) l → All (λ q. asks k q ≡ same k (q .key)) calls
 only-asks k [] l e = tt
 only-asks k (q ∷ calls) [] e =
     by-cases (same k (q .key)) (λ y. absurd (cons≢nil (rw y at e))) (λ n. (rw n, only-asks k calls [] (rw n at e)))
@@ -101,11 +101,11 @@ only-asks k (q ∷ calls) (s ∷ l) e =
     (rw (z, same-refl k), only-asks k calls l (tail-eq-of-cons-eq h)))
     (λ n. (rw n, only-asks k calls (s ∷ l) (rw n at e)))
 
-pub own-requests : (k : List ℕ) (calls : List Call) → All (λ q. asks k q ≡ same k (q .key)) calls → requestsOn k calls ≡ callsOn k calls
+pub own-requests : (k : Name) (calls : List Call) → All (λ q. asks k q ≡ same k (q .key)) calls → requestsOn k calls ≡ callsOn k calls
 own-requests k [] h = refl
 own-requests k (q ∷ calls) h = let rest = own-requests k calls (h .1) in by-cases (same k (q .key)) (λ y. rw (h .0, y, rest)) (λ n. rw (h .0, n, rest))
 
-pub own-seen : (h : Handler) (c : Config) (k : List ℕ) (calls : List Call) (w : World) → All (λ q. asks k q ≡ same k (q .key)) calls
+pub own-seen : (h : Handler) (c : Config) (k : Name) (calls : List Call) (w : World) → All (λ q. asks k q ≡ same k (q .key)) calls
     → runOn k h c w calls ≡ seenOn k (run h c w calls)
 own-seen h c k [] w o = refl
 own-seen h c k (q ∷ calls) w o =

@@ -19,6 +19,7 @@ use Rattle.block_state.specs.declared.Answer.{Answer}
 use Rattle.block_state.specs.declared.Answer.the-variants.{Continue, TooLarge, Handed, Pass, Served, Plain, Whole, First, Refused}
 use Rattle.block_state.specs.Answers.{said, continue, handed}
 use Rattle.keys.specs.Keys as keys
+use Rattle.keys.specs.Keys.{Name}
 use Rattle.entries.specs.declared.Entry.{Entry}
 use Rattle.entries.specs.Entries.{free, live}
 use Rattle.answers.specs.Parts.{partOf, bodyOf}
@@ -36,7 +37,7 @@ pub fresh-free : (c : Config) (w : World) (time : ℕ) → w .table ≡ freshTab
 unfolding live
 fresh-free c w time fresh = (0, omega arith, rw (fresh-entry w fresh 0 (omega arith)))
 
-pub fresh-nothing : (c : Config) (w : World) (time : ℕ) (k : List ℕ) → w .table ≡ freshTable → NothingInPlain c w time k
+pub fresh-nothing : (c : Config) (w : World) (time : ℕ) (k : Name) → w .table ≡ freshTable → NothingInPlain c w time k
 fresh-nothing c w time k fresh plain i b h y = rw (fresh-entry w fresh i b)
 
 -- a block alone, and two blocks, of at most 16 bytes

@@ -12,7 +12,7 @@ use Rattle.config.specs.declared.Config.{Config}
 use Rattle.block_state.specs.declared.BlockState.{BlockState}
 use Rattle.block_state.specs.Message.{What, request, response}
 use Rattle.keys.specs.Lists.{find}
-use Rattle.keys.specs.Keys.{same, keyOf}
+use Rattle.keys.specs.Keys.{Name, same, keyOf}
 use Rattle.keys.proofs.Lists.{find-before}
 use Rattle.keys.proofs.Keys.{same-eq}
 use Rattle.entries.specs.declared.Entry.{Entry}
@@ -31,16 +31,16 @@ use Rattle.demands.proofs.Outcomes.{placeOf, openedOf}
 
 -- ---- a list of keys without one
 
-abbrev without : List ℕ → List (List ℕ) → List (List ℕ)
+abbrev without : Name → List Name → List Name
 without k [] = []
 without k (y ∷ keys) = cond (same k y) keys (y ∷ without k keys)
 
-length-without : (k : List ℕ) (keys : List (List ℕ)) → among k keys ≡ true → length keys ≡ suc (length (without k keys))
+length-without : (k : Name) (keys : List Name) → among k keys ≡ true → length keys ≡ suc (length (without k keys))
 length-without k [] h = absurd (false≢true h)
 length-without k (y ∷ keys) h =
     by-cases (same k y) (λ e. rw e) (λ n. let m : among k keys ≡ true = rw n at h in rw n (ap suc (length-without k keys m)))
 
-among-without : (a k : List ℕ) (keys : List (List ℕ)) → same a k ≡ false → among a keys ≡ true → among a (without k keys) ≡ true
+among-without : (a k : Name) (keys : List Name) → same a k ≡ false → among a keys ≡ true → among a (without k keys) ≡ true
 among-without a k [] ne h = h
 among-without a k (y ∷ keys) ne h =
     by-cases (same k y)
@@ -51,7 +51,7 @@ among-without a k (y ∷ keys) ne h =
     (λ n. by-cases (same a y) (λ t. rw (n, t)) (λ f. let m : among a keys ≡ true = rw f at h in rw (n, f) (among-without a k keys ne m)))
 
 -- n keys, each among those of a list and no two the same: the list has n at least
-pigeon : (f : ℕ → List ℕ) (n : ℕ) (keys : List (List ℕ)) → ((i : ℕ) → i < n → among (f i) keys ≡ true)
+pigeon : (f : ℕ → List ℕ) (n : ℕ) (keys : List Name) → ((i : ℕ) → i < n → among (f i) keys ≡ true)
     → ((i j : ℕ) → i < n → j < n → f i ≡ f j → i ≡ j) → n ≤ length keys
 pigeon f zero keys h one = omega arith
 pigeon f (suc n) keys h one =
@@ -89,16 +89,16 @@ call-entries P c w q f none new old =
 
 -- ---- the keys in use are among these
 
-abbrev pub Over : List (List ℕ) → World → Type 0
+abbrev pub Over : List Name → World → Type 0
 Over keys w = (i : ℕ) → i < 16 → entryAt w i .used ≡ true → among (keyOf (entryAt w i .key)) keys ≡ true
 
-module _ (c : Config) (w : World) (keys : List (List ℕ)) (f : WorldFits c w) (over : Over keys w) where
+module _ (c : Config) (w : World) (keys : List Name) (f : WorldFits c w) (over : Over keys w) where
   pub over-call : (q : Call) → among (q .key) keys ≡ true → Over keys (call c w q .world)
   over-call q h =
       call-entries (λ e. e .used ≡ true → among (keyOf (e .key)) keys ≡ true) c w q f (λ u. absurd (false≢true u))
       (λ s u. rw (opened-key (q .key) (rowOf c w q) (row-length c (w .table) (q .time) (f .table) (f .sixteen))) h) over
 
-  module _ (k : List ℕ) (time : ℕ) (few : length keys ≤ 16) (mine : among k keys ≡ true) where
+  module _ (k : Name) (time : ℕ) (few : length keys ≤ 16) (mine : among k keys ≡ true) where
     abbrev found : List Entry
     found = row c (w .table) time
 
@@ -142,7 +142,7 @@ module _ (c : Config) (w : World) (keys : List (List ℕ)) (f : WorldFits c w) (
         past : (l : List Entry) → length l ≡ 16 → at l 16 .used ≡ false
         past l h = rw (List·getD-eq-default l free {n = 16} (omega arith))
 
-pub over-after : (c : Config) (keys : List (List ℕ)) (calls : List Call) (w : World) → WorldFits c w → AllBytes calls → AllAmong keys calls → Over keys w
+pub over-after : (c : Config) (keys : List Name) (calls : List Call) (w : World) → WorldFits c w → AllBytes calls → AllAmong keys calls → Over keys w
     → Over keys (after call c w calls)
 over-after c keys [] w f ab aa over = over
 over-after c keys (q ∷ calls) w f ab aa over =

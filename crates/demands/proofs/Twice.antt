@@ -24,7 +24,7 @@ use Rattle.block_state.specs.State.{assembly, withAssembled, withRecorded}
 use Rattle.block_state.specs.Step.{left, bytesFrom}
 use Rattle.request_step.specs.Block1.{notNext, lengthMet}
 use Rattle.request_step.specs.Step.{stepRequest}
-use Rattle.keys.specs.Keys.{keyOk}
+use Rattle.keys.specs.Keys.{Name, keyOk}
 use Rattle.entries.specs.declared.Entry.{Entry}
 use Rattle.block_table.proofs.TableFits.{row}
 use Rattle.places.specs.Places.{place, opened}
@@ -95,7 +95,7 @@ joined-length x j s (t ∷ rest) e =
     omega (arith, joined-length x (suc j) t rest (e .1), e .0)
 
 -- the last block's options are bytes, since all calls' are
-module _ (k : List ℕ) where
+module _ (k : Name) where
   last-bytes : (s : Sent) (rest : List Sent) (calls : List Call) → requestsOn k calls ≡ map (callOn k) rest → AllBytes (callOn k s ∷ calls)
       → WhatBytes (request (lastOf s rest .message))
   last-bytes s [] calls own ab = ab .0
@@ -103,7 +103,7 @@ module _ (k : List ℕ) where
       let z = cut k calls (callOn k t) (map (callOn k) rest) own in
       last-bytes t rest (z .behind) (z .left) (all-behind _ (z .before) (callOn k t ∷ z .behind) (subst AllBytes (z .is) (ab .1)))
 
-module _ (c : Config) (w : World) (k : List ℕ) (x : ℕ) (first : Sent) (rest : List Sent) (later : List Call) (again : Sent)
+module _ (c : Config) (w : World) (k : Name) (x : ℕ) (first : Sent) (rest : List Sent) (later : List Call) (again : Sent)
     (a : SentAgain c w k x first rest later again) where
   abbrev then : World
   then = after call c w (callOn k first ∷ later)

@@ -30,7 +30,7 @@ use Rattle.request_step.specs.Block1.{lengthMet}
 use Rattle.request_step.specs.Step.{stepRequest}
 use Rattle.request_step.proofs.StepKeeps.{request-keeps}
 use Rattle.response_step.specs.Step.{stepResponse}
-use Rattle.keys.specs.Keys.{same}
+use Rattle.keys.specs.Keys.{Name, same}
 use Rattle.keys.proofs.Keys.{same-refl}
 use Rattle.entries.specs.declared.Entry.{Entry}
 use Rattle.block_table.specs.Table.{at}
@@ -126,10 +126,10 @@ module _ (c : Config) (strict : c .strict ≡ true) (home away : ℕ) (s : Block
 abbrev Taken : Config → List ℕ → List ℕ → ℕ → BlockState → Type 0
 Taken c mem old i s = Has (s .assembled) (pieceOf (c .upload) i mem) old
 
-abbrev AllHas : Config → World → List ℕ → List ℕ → Type 0
+abbrev AllHas : Config → World → Name → List ℕ → Type 0
 AllHas c w k old = Known w k (Taken c (w .upload) old)
 
-module _ (c : Config) (strict : c .strict ≡ true) (w : World) (q : Call) (k old : List ℕ) (f : WorldFits c w) (bytes : WhatBytes (q .what)) (known : AllHas c w k old) where
+module _ (c : Config) (strict : c .strict ≡ true) (w : World) (q : Call) (k : Name) (old : List ℕ) (f : WorldFits c w) (bytes : WhatBytes (q .what)) (known : AllHas c w k old) where
   abbrev here : ℕ
   here = placeOf c w q
 
@@ -198,13 +198,13 @@ module _ (c : Config) (strict : c .strict ≡ true) (w : World) (q : Call) (k ol
 
 -- ---- runs
 
-known-run : (c : Config) → c .strict ≡ true → (k : List ℕ) (calls : List Call) (w : World) (old : List ℕ) → WorldFits c w → AllBytes calls → AllHas c w k old
+known-run : (c : Config) → c .strict ≡ true → (k : Name) (calls : List Call) (w : World) (old : List ℕ) → WorldFits c w → AllBytes calls → AllHas c w k old
     → AllHas c (after call c w calls) k (allTaken call c w k old calls)
 known-run c strict k [] w old f ab known = known
 known-run c strict k (q ∷ calls) w old f ab known =
     known-run c strict k calls (call c w q .world) (takenOn c k old q (call c w q .answer)) (call-fits c w q (ab .0) f) (ab .1) (known-call c strict w q k old f (ab .0) known)
 
-taken-cut : (h : Handler) (c : Config) (k : List ℕ) (a : List Call) (q : Call) (w : World) (old : List ℕ)
+taken-cut : (h : Handler) (c : Config) (k : Name) (a : List Call) (q : Call) (w : World) (old : List ℕ)
     → allTaken h c w k old (a ++ (q ∷ [])) ≡ takenOn c k (allTaken h c w k old a) q (h c (after h c w a) q .answer)
 taken-cut h c k [] q w old = refl
 taken-cut h c k (p ∷ a) q w old = taken-cut h c k a q (h c w p .world) (takenOn c k old p (h c w p .answer))

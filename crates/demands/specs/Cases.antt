@@ -79,7 +79,7 @@ afterFirst = step false old (replicate 64 1) (0x08 ∷ []) (replicate 16 2)
 abbrev pub afterLast : Left
 afterLast = step false (afterFirst .state) (afterFirst .piece) (0x10 ∷ []) (replicate 16 3)
 
--- The configuration is this one, in either mode.
+-- Cases 1 to 7 under this configuration, in the mode that `strict` says.
 abbrev pub cases : Bool → List Row
 cases strict =
     -- 1. Make size 15: exponent 0. Size 32: 1. Size 0: refused.

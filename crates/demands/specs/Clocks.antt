@@ -9,7 +9,7 @@ use mathlib.Core.Logic.{_⊎_}
 use mathlib.Core.List.{List, [], _∷_, map}
 use Rattle.config.specs.declared.Config.{Config}
 use Rattle.block_state.specs.Message.{What, request, response}
-use Rattle.keys.specs.Keys.{same}
+use Rattle.keys.specs.Keys.{Name, same}
 use Rattle.block_handler.specs.Call.{World, Call}
 use Rattle.demands.specs.Demand3.{Handler, Seen, seen, Sent, callOn, joined, HasLive, HasFree, NothingInPlain, Push, HandsOn, Demand3}
 
@@ -18,25 +18,25 @@ isRequest (request r) = true
 isRequest (response r) = false
 
 -- The call is a request on key k.
-abbrev pub asks : List ℕ → Call → Bool
+abbrev pub asks : Name → Call → Bool
 asks k q = same k (q .key) && isRequest (q .what)
 
 -- The requests on key k, in order, and what is seen of them in the run.
-abbrev pub requestsOn : List ℕ → List Call → List Call
+abbrev pub requestsOn : Name → List Call → List Call
 requestsOn k [] = []
 requestsOn k (q ∷ calls) = cond (asks k q) (q ∷ requestsOn k calls) (requestsOn k calls)
 
-abbrev pub runOn : List ℕ → Handler → Config → World → List Call → List Seen
+abbrev pub runOn : Name → Handler → Config → World → List Call → List Seen
 runOn k h c w [] = []
 runOn k h c w (q ∷ calls) = cond (asks k q) (seen q (h c w q) ∷ runOn k h c (h c w q .world) calls) (runOn k h c (h c w q .world) calls)
 
 -- Each request on key k is not before t, the latest time so far; and so for the calls behind it, with its own time counted in.
-abbrev pub OwnRising : List ℕ → ℕ → List Call → Type 0
+abbrev pub OwnRising : Name → ℕ → List Call → Type 0
 OwnRising k t [] = Unit {0}
 OwnRising k t (q ∷ calls) = (asks k q ≡ true → t ≤ q .time) × OwnRising k (max t (q .time)) calls
 
 -- As `Granted` of demand 3, in all but `own` and `clock`.
-pub record GrantedOwn (c : Config) (w : World) (k : List ℕ) (x : ℕ) (first : Sent) (rest : List Sent) (later : List Call) : Type 0 where
+pub record GrantedOwn (c : Config) (w : World) (k : Name) (x : ℕ) (first : Sent) (rest : List Sent) (later : List Call) : Type 0 where
   pub entry : HasLive c w (first .time) k ⊎ HasFree c w (first .time)
   pub nothing : NothingInPlain c w (first .time) k
   pub push : Push c w k x first rest later
@@ -47,7 +47,7 @@ pub record GrantedOwn (c : Config) (w : World) (k : List ℕ) (x : ℕ) (first :
 
 unfoldable pub Demand3Own : Handler → Type 0
 Demand3Own h =
-    (c : Config) (w : World) (k : List ℕ) (x : ℕ) (first : Sent) (rest : List Sent) (later : List Call) → GrantedOwn c w k x first rest later
+    (c : Config) (w : World) (k : Name) (x : ℕ) (first : Sent) (rest : List Sent) (later : List Call) → GrantedOwn c w k x first rest later
     → HandsOn (joined first rest) (runOn k h c w (callOn k first ∷ later))
 
 -- It is the stronger: demand 3 follows from it, for any handler.

@@ -11,6 +11,7 @@ use denote.Triple.Clauses.{AtExit}
 use borrow.Fn.World.{ArgsD, ResD}
 use borrow.Fn.Kinds.{endedOf}
 use Rattle.config.specs.declared.Config.{Config}
+use Rattle.keys.specs.Keys.{Name}
 use Rattle.answers.specs.Parts.{bodyOf}
 use Rattle.answers.proofs.body
 use Rattle.block_handler.specs.Call.{World, Call, Done, call}
@@ -100,6 +101,6 @@ RunsAreCalls =
 -- Demand 3 of every such run.
 unfoldable pub Demand3OfRuns : Type 0
 Demand3OfRuns =
-    (c : Config) (w : World) (k : List ℕ) (x : ℕ) (first : Sent) (rest : List Sent) (later : List Call) (results : List Done)
+    (c : Config) (w : World) (k : Name) (x : ℕ) (first : Sent) (rest : List Sent) (later : List Call) (results : List Done)
     → Granted c w k x first rest later → Ran c w (callOn k first ∷ later) results
     → HandsOn (joined first rest) (seenOn k (seenOf (callOn k first ∷ later) results))

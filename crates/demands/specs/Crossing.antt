@@ -9,7 +9,7 @@ use lib.ListN.{length, take, drop}
 use lib.Dec.{leb}
 use Rattle.config.specs.declared.Config.{Config}
 use Rattle.block_state.specs.declared.Answer.the-variants.{Refused}
-use Rattle.keys.specs.Keys.{same, keyOk}
+use Rattle.keys.specs.Keys.{Name, same, keyOk}
 use Rattle.block_handler.specs.Call.{World, Call, done, whatOk}
 use Rattle.demands.specs.Clocks.{asks, requestsOn}
 use Rattle.demands.specs.Demand3.{Handler, Seen, seen, Sent, callOn, joined, All, AllBytes, Fresh, Blocks, HandsOn}
@@ -30,7 +30,7 @@ counted t [] = []
 counted t (q ∷ calls) = cond (counts t q) (q ∷ counted (q .time) calls) (counted t calls)
 
 -- What is seen of those of them that are requests on key k, in the run of all calls.
-abbrev pub seenCounted : List ℕ → Handler → Config → World → ℕ → List Call → List Seen
+abbrev pub seenCounted : Name → Handler → Config → World → ℕ → List Call → List Seen
 seenCounted k h c w t [] = []
 seenCounted k h c w t (q ∷ calls) =
     cond (counts t q)
@@ -47,15 +47,15 @@ UncountedRefused h c w t (q ∷ calls) =
 -- ---- The run
 
 -- The key is one of these.
-abbrev pub among : List ℕ → List (List ℕ) → Bool
+abbrev pub among : Name → List Name → Bool
 among k [] = false
 among k (y ∷ keys) = same k y || among k keys
 
-abbrev pub AllAmong : List (List ℕ) → List Call → Type 0
+abbrev pub AllAmong : List Name → List Call → Type 0
 AllAmong keys = All (λ q. among (q .key) keys ≡ true)
 
 -- From a fresh start: any calls at all, so long as those that count are over at most sixteen keys.
-pub record FromFresh (c : Config) (w : World) (keys : List (List ℕ)) (calls : List Call) : Type 0 where
+pub record FromFresh (c : Config) (w : World) (keys : List Name) (calls : List Call) : Type 0 where
   pub start : Fresh c w
   pub sixteen : length keys ≤ 16
   pub over : AllAmong keys (counted 0 calls)
@@ -76,12 +76,12 @@ AllProper c [] = Unit {0}
 AllProper c (p ∷ rest) = Blocks c (p .exponent) (p .first) (p .rest) × AllProper c rest
 
 -- The calls of these pushes on key k, one push after another. Between two pushes any time may pass.
-abbrev pub callsOf : List ℕ → List Transfer → List Call
+abbrev pub callsOf : Name → List Transfer → List Call
 callsOf k [] = []
 callsOf k (p ∷ rest) = map (callOn k) (p .first ∷ p .rest) ++ callsOf k rest
 
 -- The key's requests, those that count, are these pushes. (Its responses may stand anywhere.)
-pub record Sends (c : Config) (k : List ℕ) (calls : List Call) (pushes : List Transfer) : Type 0 where
+pub record Sends (c : Config) (k : Name) (calls : List Call) (pushes : List Transfer) : Type 0 where
   pub own : requestsOn k (counted 0 calls) ≡ callsOf k pushes
   pub proper : AllProper c pushes
 
@@ -96,18 +96,18 @@ HandsAll (p ∷ rest) seen =
 -- A morning of pushes on a key, and so on each.
 unfoldable pub MorningsCross : Handler → Type 0
 MorningsCross h =
-    (c : Config) (w : World) (keys : List (List ℕ)) (calls : List Call) → FromFresh c w keys calls
-    → (k : List ℕ) (pushes : List Transfer) → Sends c k calls pushes
+    (c : Config) (w : World) (keys : List Name) (calls : List Call) → FromFresh c w keys calls
+    → (k : Name) (pushes : List Transfer) → Sends c k calls pushes
     → HandsAll pushes (seenCounted k h c w 0 calls)
 
 -- One push on a key: on each of the sixteen at once, since the calls are fixed before the key.
 unfoldable pub SixteenCross : Handler → Type 0
 SixteenCross h =
-    (c : Config) (w : World) (keys : List (List ℕ)) (calls : List Call) → FromFresh c w keys calls
-    → (k : List ℕ) (p : Transfer) → Sends c k calls (p ∷ [])
+    (c : Config) (w : World) (keys : List Name) (calls : List Call) → FromFresh c w keys calls
+    → (k : Name) (p : Transfer) → Sends c k calls (p ∷ [])
     → HandsOn (joined (p .first) (p .rest)) (seenCounted k h c w 0 calls)
 
 -- And the calls that do not count are refused, and change nothing.
 unfoldable pub UncountedAreRefused : Handler → Type 0
 UncountedAreRefused h =
-    (c : Config) (w : World) (keys : List (List ℕ)) (calls : List Call) → FromFresh c w keys calls → UncountedRefused h c w 0 calls
+    (c : Config) (w : World) (keys : List Name) (calls : List Call) → FromFresh c w keys calls → UncountedRefused h c w 0 calls

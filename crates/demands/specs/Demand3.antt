@@ -18,7 +18,7 @@ use Rattle.block_state.specs.declared.Answer.{Answer}
 use Rattle.block_state.specs.Message.{Request, What, request, response, WhatBytes}
 use Rattle.block_state.specs.Answers.{said, continue, handed}
 use Rattle.entries.specs.declared.Entry.{Entry}
-use Rattle.keys.specs.Keys.{same}
+use Rattle.keys.specs.Keys.{Name, same}
 use Rattle.entries.specs.Entries.{holds, live}
 use Rattle.block_table.specs.Table.{at, freshTable}
 use Rattle.judge.specs.Limits.{configOk, memoriesOk}
@@ -33,7 +33,7 @@ Handler = Config → World → Call → Done
 
 -- Of one call: its key, its answer, and the body that is then shown, of the call's own payload and the upload memory that it left.
 pub record Seen : Type 0 where
-  pub key : List ℕ
+  pub key : Name
   pub answer : Answer
   pub shown : List ℕ
 
@@ -55,11 +55,11 @@ after h c w [] = w
 after h c w (q ∷ calls) = after h c (h c w q .world) calls
 
 -- The calls on key k, in order, and what was seen of them.
-abbrev pub callsOn : List ℕ → List Call → List Call
+abbrev pub callsOn : Name → List Call → List Call
 callsOn k [] = []
 callsOn k (q ∷ calls) = cond (same k (q .key)) (q ∷ callsOn k calls) (callsOn k calls)
 
-abbrev pub seenOn : List ℕ → List Seen → List Seen
+abbrev pub seenOn : Name → List Seen → List Seen
 seenOn k [] = []
 seenOn k (s ∷ rest) = cond (same k (s .key)) (s ∷ seenOn k rest) (seenOn k rest)
 
@@ -70,7 +70,7 @@ pub record Sent : Type 0 where
   pub time : ℕ
   pub message : Request
 
-abbrev pub callOn : List ℕ → Sent → Call
+abbrev pub callOn : Name → Sent → Call
 callOn k s = record { time = s .time; key = k; what = request (s .message) }
 
 -- The block value of num j, with or without more, of size 2 to the power x + 4.
@@ -124,7 +124,7 @@ abbrev pub entryAt : World → ℕ → Entry
 entryAt w i = at (w .table .entries) i
 
 -- "A live entry": one of the sixteen is in use for the key, and live.
-abbrev pub HasLive : Config → World → ℕ → List ℕ → Type 0
+abbrev pub HasLive : Config → World → ℕ → Name → Type 0
 HasLive c w time k =
     (i : ℕ) × (i < 16) × (holds k (entryAt w i) ≡ true) × (live (c .lifetime) time (entryAt w i) ≡ true)
 
@@ -133,7 +133,7 @@ abbrev pub HasFree : Config → World → ℕ → Type 0
 HasFree c w time = (i : ℕ) × (i < 16) × (live (c .lifetime) time (entryAt w i) ≡ false)
 
 -- "In plain mode, nothing assembled": if the key has a live entry, its assembled length is 0. In strict mode nothing is asked.
-abbrev pub NothingInPlain : Config → World → ℕ → List ℕ → Type 0
+abbrev pub NothingInPlain : Config → World → ℕ → Name → Type 0
 NothingInPlain c w time k =
     c .strict ≡ false → (i : ℕ) → i < 16 → holds k (entryAt w i) ≡ true → live (c .lifetime) time (entryAt w i) ≡ true
     → entryAt w i .state .assembled .len ≡ 0
@@ -162,7 +162,7 @@ pub record Blocks (c : Config) (x : ℕ) (first : Sent) (rest : List Sent) : Typ
 
 -- The run is block `first` and then the calls `later`: the rest of the client's blocks, and calls for other keys "between them" (or after the
 -- last). Those are any requests and responses at all, with any numbers and bytes, also such as are refused or start other uploads.
-pub record Push (c : Config) (w : World) (k : List ℕ) (x : ℕ) (first : Sent) (rest : List Sent) (later : List Call) : Type 0 where
+pub record Push (c : Config) (w : World) (k : Name) (x : ℕ) (first : Sent) (rest : List Sent) (later : List Call) : Type 0 where
   -- Document 01: "the first table and the key's own calls keep to this document's limits": no refusal 1 for the first block, so that the
   -- configuration, both memories, the key and the table are within the limits. (The later blocks have the same key. That their lengths are
   -- within the limits is not assumed: it follows from `room` and `full`, since T is at most 65,535.)
@@ -173,7 +173,7 @@ pub record Push (c : Config) (w : World) (k : List ℕ) (x : ℕ) (first : Sent)
   pub blocks : Blocks c x first rest
 
 -- The whole of it. "In either mode": nothing is said of c .strict but in `nothing`.
-pub record Granted (c : Config) (w : World) (k : List ℕ) (x : ℕ) (first : Sent) (rest : List Sent) (later : List Call) : Type 0 where
+pub record Granted (c : Config) (w : World) (k : Name) (x : ℕ) (first : Sent) (rest : List Sent) (later : List Call) : Type 0 where
   -- "Take a key with a live entry or a free one to take ..
   pub entry : HasLive c w (first .time) k ⊎ HasFree c w (first .time)
   -- .. and, in plain mode, nothing assembled."
@@ -194,5 +194,5 @@ HandsOn bytes (s ∷ t ∷ rest) = (said (s .answer) .kind ≡ continue) × Hand
 
 unfoldable pub Demand3 : Handler → Type 0
 Demand3 h =
-    (c : Config) (w : World) (k : List ℕ) (x : ℕ) (first : Sent) (rest : List Sent) (later : List Call) → Granted c w k x first rest later
+    (c : Config) (w : World) (k : Name) (x : ℕ) (first : Sent) (rest : List Sent) (later : List Call) → Granted c w k x first rest later
     → HandsOn (joined first rest) (seenOn k (run h c w (callOn k first ∷ later)))

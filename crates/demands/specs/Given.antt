@@ -8,6 +8,7 @@ use lib.ListN.{length, replicate}
 use Rattle.config.specs.declared.Config.{Config}
 use Rattle.block_state.specs.Message.{request, response}
 use Rattle.block_state.specs.Answers.{said, served}
+use Rattle.keys.specs.Keys.{Name}
 use Rattle.block_table.specs.Table.{freshTable}
 use Rattle.answers.specs.Parts.{servedChunk}
 use Rattle.block_handler.specs.Call.{World, Call, Done, call}
@@ -53,7 +54,7 @@ bytes = 1 ∷ 2 ∷ 3 ∷ 4 ∷ 5 ∷ 6 ∷ 7 ∷ 8 ∷ 9 ∷ 10 ∷ 11 ∷ 12 �
 abbrev pub backwards : List ℕ
 backwards = 16 ∷ 15 ∷ 14 ∷ 13 ∷ 12 ∷ 11 ∷ 10 ∷ 9 ∷ 8 ∷ 7 ∷ 6 ∷ 5 ∷ 4 ∷ 3 ∷ 2 ∷ 1 ∷ []
 
-abbrev pub keyOfByte : ℕ → List ℕ
+abbrev pub keyOfByte : ℕ → Name
 keyOfByte b = b ∷ []
 
 abbrev pub firstOf : ℕ → Sent

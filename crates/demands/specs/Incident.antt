@@ -17,7 +17,7 @@ use Rattle.block_state.specs.Message.{Request}
 use Rattle.block_state.specs.State.{assembly, nothing, withAssembled}
 use Rattle.block_state.specs.Step.{Left, bytesFrom}
 use Rattle.request_step.specs.Step.{stepRequest}
-use Rattle.keys.specs.Keys.{stored}
+use Rattle.keys.specs.Keys.{Name, stored}
 use Rattle.entries.specs.Entries.{inUse}
 use Rattle.block_table.specs.Table.{freshTable, tableWith}
 use Rattle.block_handler.specs.Call.{World, Call, call}
@@ -53,7 +53,7 @@ TailKept =
     × (take l (twice c home away s u first last .piece) ≡ first .payload ++ last .payload ++ part u (sizeOf x + sizeOf x) (l - (sizeOf x + sizeOf x)))
 
 -- The same story told by whole calls: the key's entry has 64 bytes 1 assembled, and its client sends 16 bytes 2 and 16 bytes 3.
-abbrev pub lane : List ℕ
+abbrev pub lane : Name
 lane = 1 ∷ []
 
 abbrev pub shop : Bool → Config
@@ -92,7 +92,7 @@ pub record Story : Type 0 where
 -- Whatever is assembled for the key, a push that starts again at block 0, with no other call on the key between, hands on exactly its own blocks.
 unfoldable pub StartsAfresh : Handler → Type 0
 StartsAfresh h =
-    (c : Config) (w : World) (k : List ℕ) (x : ℕ) (first : Sent) (rest : List Sent) (later : List Call)
+    (c : Config) (w : World) (k : Name) (x : ℕ) (first : Sent) (rest : List Sent) (later : List Call)
     → c .strict ≡ true → HasLive c w (first .time) k → Push c w k x first rest later
     → callsOn k later ≡ map (callOn k) rest → Rising (w .table .clock) (callOn k first ∷ later)
     → HandsOn (joined first rest) (seenOn k (run h c w (callOn k first ∷ later)))

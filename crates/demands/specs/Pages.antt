@@ -18,7 +18,7 @@ use Rattle.block_state.specs.declared.Served as served
 use Rattle.block_state.specs.declared.Answer.{Answer}
 use Rattle.block_state.specs.declared.Answer.the-variants.{Continue, TooLarge, Handed, Pass, Served, Plain, Whole, First, Refused}
 use Rattle.block_state.specs.Message.{Request, What, request, response}
-use Rattle.keys.specs.Keys.{same}
+use Rattle.keys.specs.Keys.{Name, same}
 use Rattle.answers.specs.Parts.{servedHead, servedChunk}
 use Rattle.block_handler.specs.Call.{World, Call}
 use Rattle.demands.specs.Demand3.{Handler, after, AllBytes, Fresh}
@@ -45,11 +45,11 @@ abbrev pub storedBy : What → Answer → Option Page → Option Page
 storedBy (request r) a old = old
 storedBy (response r) a old = cond (isFirst a) (some (record { head = r .head; payload = r .payload })) old
 
-abbrev pub noted : List ℕ → Option Page → Call → Answer → Option Page
+abbrev pub noted : Name → Option Page → Call → Answer → Option Page
 noted k old q a = cond (same k (q .key)) (storedBy (q .what) a old) old
 
 -- What First stored last for key k in these calls, also if it was dropped or expired since.
-abbrev pub lastStored : Handler → Config → World → List ℕ → Option Page → List Call → Option Page
+abbrev pub lastStored : Handler → Config → World → Name → Option Page → List Call → Option Page
 lastStored h c w k old [] = old
 lastStored h c w k old (q ∷ calls) = lastStored h c (h c w q .world) k (noted k old q (h c w q .answer)) calls
 

@@ -18,7 +18,7 @@ use Rattle.block_state.specs.Message.{What, request, response}
 use Rattle.block_state.specs.Answers.{said, continue, handed, pass, first, refusal}
 use Rattle.block_state.specs.State.{nothing}
 use Rattle.block_state.specs.Step.{bytesFrom}
-use Rattle.keys.specs.Keys.{stored}
+use Rattle.keys.specs.Keys.{Name, stored}
 use Rattle.entries.specs.Entries.{inUse}
 use Rattle.block_table.specs.Table.{freshTable, tableWith}
 use Rattle.block_handler.specs.Call.{World, Call, done, call, withinLimits}
@@ -33,7 +33,7 @@ config strict = record { strict = strict; limit = 64; lifetime = 100; upload = 3
 abbrev pub fresh : World
 fresh = record { table = freshTable; upload = replicate 512 0; response = replicate 1024 0 }
 
-abbrev pub key : List ℕ
+abbrev pub key : Name
 key = 1 ∷ []
 
 abbrev pub sent : ℕ → List ℕ → List ℕ → Sent
@@ -121,7 +121,7 @@ StoresNothing strict h = (c : Config) (w : World) (q : Call) → c .strict ≡ s
 -- whatever it does afterwards.
 abbrev pub HandsAtZero : Bool → Handler → Type 0
 HandsAtZero strict h =
-    (c : Config) (w : World) (k : List ℕ) (s : Sent) (more : Bool) (x : ℕ) → c .strict ≡ strict → withinLimits c w (callOn k s) ≡ true
+    (c : Config) (w : World) (k : Name) (s : Sent) (more : Bool) (x : ℕ) → c .strict ≡ strict → withinLimits c w (callOn k s) ≡ true
     → requestBlock c (s .message .block1) ≡ Given (block 0 more x)
     → said (h c w (callOn k s) .answer) .kind ≡ handed
 

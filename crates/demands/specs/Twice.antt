@@ -9,6 +9,7 @@ use mathlib.Core.List.{List, [], _∷_, _++_}
 use lib.ListN.{length, replicate}
 use Rattle.block_value.specs.Value.{sizeOf}
 use Rattle.config.specs.declared.Config.{Config}
+use Rattle.keys.specs.Keys.{Name}
 use Rattle.block_handler.specs.Call.{World, Call}
 use Rattle.demands.specs.Demand3.{Handler, after, Sent, callOn, All}
 use Rattle.demands.specs.Clocks.{GrantedOwn}
@@ -21,7 +22,7 @@ lastOf s (t ∷ rest) = lastOf t rest
 
 -- ---- What is given
 
-pub record SentAgain (c : Config) (w : World) (k : List ℕ) (x : ℕ) (first : Sent) (rest : List Sent) (later : List Call) (again : Sent) : Type 0 where
+pub record SentAgain (c : Config) (w : World) (k : Name) (x : ℕ) (first : Sent) (rest : List Sent) (later : List Call) (again : Sent) : Type 0 where
   -- A push as demand 3 has it (other lanes' clocks may go back): block `first`, then the calls `later`, which hold the blocks `rest`, any calls for other keys and any
   -- responses on this one, also behind the last.
   pub granted : GrantedOwn c w k x first rest later
@@ -36,18 +37,18 @@ pub record SentAgain (c : Config) (w : World) (k : List ℕ) (x : ℕ) (first : 
 
 pub record Twice (h : Handler) : Type 0 where
   -- Strict, two blocks or more: refusal 9, nothing but the touch.
-  pub strictMany : (c : Config) (w : World) (k : List ℕ) (x : ℕ) (first second : Sent) (rest : List Sent) (later : List Call) (again : Sent)
+  pub strictMany : (c : Config) (w : World) (k : Name) (x : ℕ) (first second : Sent) (rest : List Sent) (later : List Call) (again : Sent)
       → c .strict ≡ true → SentAgain c w k x first (second ∷ rest) later again
       → RefusesTo 9 h c (after h c w (callOn k first ∷ later)) (callOn k again)
   -- Strict, one block: handed on again, the same body.
-  pub strictOne : (c : Config) (w : World) (k : List ℕ) (x : ℕ) (first : Sent) (later : List Call) (again : Sent)
+  pub strictOne : (c : Config) (w : World) (k : Name) (x : ℕ) (first : Sent) (later : List Call) (again : Sent)
       → c .strict ≡ true → SentAgain c w k x first [] later again
       → HandsTo (first .message .payload) h c (after h c w (callOn k first ∷ later)) (callOn k again)
   -- Plain, n times the size at most 16,384: (n-1) times the size in zero bytes, and then the block.
-  pub plainZeros : (c : Config) (w : World) (k : List ℕ) (x : ℕ) (first : Sent) (rest : List Sent) (later : List Call) (again : Sent)
+  pub plainZeros : (c : Config) (w : World) (k : Name) (x : ℕ) (first : Sent) (rest : List Sent) (later : List Call) (again : Sent)
       → c .strict ≡ false → SentAgain c w k x first rest later again → length (first ∷ rest) * sizeOf x ≤ 16384
       → HandsTo (replicate (length rest * sizeOf x) 0 ++ lastOf first rest .message .payload) h c (after h c w (callOn k first ∷ later)) (callOn k again)
   -- Plain, more than that: refusal 6, nothing but the touch.
-  pub plainFar : (c : Config) (w : World) (k : List ℕ) (x : ℕ) (first : Sent) (rest : List Sent) (later : List Call) (again : Sent)
+  pub plainFar : (c : Config) (w : World) (k : Name) (x : ℕ) (first : Sent) (rest : List Sent) (later : List Call) (again : Sent)
       → c .strict ≡ false → SentAgain c w k x first rest later again → 16384 < length (first ∷ rest) * sizeOf x
       → RefusesTo 6 h c (after h c w (callOn k first ∷ later)) (callOn k again)

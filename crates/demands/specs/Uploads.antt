@@ -16,7 +16,7 @@ use Rattle.block_state.specs.declared.Part.{Part}
 use Rattle.block_state.specs.declared.Answer.{Answer}
 use Rattle.block_state.specs.declared.Answer.the-variants.{Handed}
 use Rattle.block_state.specs.Message.{Request, What, request, response}
-use Rattle.keys.specs.Keys.{same}
+use Rattle.keys.specs.Keys.{Name, same}
 use Rattle.block_handler.specs.Call.{World, Call}
 use Rattle.demands.specs.Demand3.{Handler, seen, after, AllBytes, Fresh}
 use Rattle.demands.specs.Strict.{tookBlock}
@@ -31,11 +31,11 @@ abbrev pub takenBy : Config → What → Answer → List ℕ → List ℕ
 takenBy c (request r) a old = cond (tookBlock a) (joinedBy (requestBlock c (r .block1)) old (r .payload)) old
 takenBy c (response r) a old = old
 
-abbrev pub takenOn : Config → List ℕ → List ℕ → Call → Answer → List ℕ
+abbrev pub takenOn : Config → Name → List ℕ → Call → Answer → List ℕ
 takenOn c k old q a = cond (same k (q .key)) (takenBy c (q .what) a old) old
 
 -- What was taken for key k in these calls, each from what the call before it left, from the last block 0 that was taken on.
-abbrev pub allTaken : Handler → Config → World → List ℕ → List ℕ → List Call → List ℕ
+abbrev pub allTaken : Handler → Config → World → Name → List ℕ → List Call → List ℕ
 allTaken h c w k old [] = old
 allTaken h c w k old (q ∷ calls) = allTaken h c (h c w q .world) k (takenOn c k old q (h c w q .answer)) calls
 
