@@ -1,4 +1,3 @@
-use mathlib.Core.Path.{refl}
 use Prim.Native.Nat.{_+_, _-_, _/_, _%_}
 use lib.ListN.{length, getD}
 use borrow.Author.Needs.{needs}
