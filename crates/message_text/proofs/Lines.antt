@@ -7,8 +7,8 @@ use native.Mathlib.Omega.{arith}
 use lib.ListN.{length, take}
 use borrow.Author.Tests.{le-leb, lt-leb}
 use Rattle.message.specs.Format.{meaningOf}
-use Rattle.script_fields.specs.Fields.{isPairs, pairsOf, pairsDecoded}
-use Rattle.script_fields.specs.declared.Decoded.the-variants as decoded
+use Rattle.script.specs.Fields.{isPairs, pairsOf, pairsDecoded}
+use Rattle.script.specs.declared.Decoded.the-variants as decoded
 use Rattle.message_fields.specs.Fields.{unreadableText}
 use Rattle.message_text.specs.Text.{meaningText, lineText}
 

@@ -6,7 +6,7 @@ use lib.Dec.{leb}
 use lib.ListN.{length}
 use Rattle.message.specs.Format.{CoapOption, Message, Meaning, malformed, means, meaningOf}
 use Rattle.script_text.specs.Text.{shown}
-use Rattle.script_fields.specs.Fields.{isPairs, pairsOf}
+use Rattle.script.specs.Fields.{isPairs, pairsOf}
 use Rattle.message_fields.specs.Fields.{headText, optionText, refusedText, unreadableText}
 
 -- Options, each behind a comma.

@@ -1,6 +1,6 @@
 // A message's line, and that of its hex.
 use message::Reading;
-use script_fields::Decoded;
+use script::Decoded;
 ghost use Prim.Native.Nat.{_+_, _*_, _≤_};
 ghost use lib.ListN.{length};
 ghost use Rattle.pieces.specs.Memory.{Put};
@@ -33,7 +33,7 @@ pub fn put_line(out: &mut [u8], at: usize, number: u64, line: &[u8], bytes: &mut
     if 131070 < line.len() {
         return message_fields::put_unreadable(out, at, number);
     }
-    let Decoded::Bytes(n) = script_fields::decode_pairs(line, bytes) else {
+    let Decoded::Bytes(n) = script::decode_pairs(line, bytes) else {
         return message_fields::put_unreadable(out, at, number);
     };
     put_message(out, at, number, &bytes[0..n])
