@@ -5,20 +5,14 @@ fn main() {
     let mut text = [0u8; 8192];
     let mut upload = buffers::memory();
     let mut response = buffers::memory();
-    let mut key = buffers::field();
-    let mut first = buffers::field();
-    let mut second = buffers::field();
-    let mut payload = buffers::field();
+    let mut scratch = buffers::scratch();
     let mut out = buffers::output();
     let n = io::read_full(0, &mut text);
     let last = runner::run_script(
         &text[..n],
         &mut upload,
         &mut response,
-        &mut key,
-        &mut first,
-        &mut second,
-        &mut payload,
+        &mut scratch,
         &mut out,
     );
     line_input::print(&out, last.at);

@@ -1,5 +1,5 @@
 -- What a line leaves of the configuration, the table and the lent memories; and a fresh start.
-use Prim.Native.Nat.{ℕ, _*_, min}
+use Prim.Native.Nat.{ℕ, _+_, _≤_}
 use mathlib.Core.Path.{_≡_}
 use mathlib.Core.List.{List}
 use lib.ListN.{take, drop, replicate}
@@ -9,17 +9,15 @@ use Rattle.block_table.specs.Table.{freshTable}
 use Rattle.block_handler.specs.Call.{World}
 use Rattle.block_handler.specs.Contract.{world}
 use Rattle.replay_control.specs.Control.{configText}
-use Rattle.script_state.specs.declared.State.{State}
+use Rattle.pieces.specs.Memory.{Put}
+use Rattle.script_state.specs.Sizes.{memoryOf, lineRoom}
+use Rattle.script_state.specs.declared.Step.{Step}
 
 -- What a line leaves, and what is printed of it.
 pub record After : Type 0 where
   pub config : Config
   pub world : World
   pub text : List ℕ
-
--- The length of a memory of sixteen pieces, each of at most 65,536 bytes.
-abbrev pub memoryOf : ℕ → ℕ
-memoryOf piece = 16 * min piece 65536
 
 -- An empty table and memories of zeros, as long as the configuration says, within that.
 unfoldable pub freshWorld : Config → World
@@ -33,10 +31,12 @@ fresh c n = record { config = c; world = freshWorld c; text = configText n }
 abbrev pub worldIn : Config → Table → List ℕ → List ℕ → World
 worldIn c t up away = world t (take (memoryOf (c .upload)) up) (take (memoryOf (c .response)) away)
 
--- What a line leaves of what is lent to it. Past what its configuration has, each memory is as it was.
-pub record Leaves (a : After) (n : ℕ) (up away : List ℕ) (s : State) (up′ away′ : List ℕ) : Type 0 where
-  pub config : s .config ≡ a .config
-  pub world : worldIn (s .config) (s .table) up′ away′ ≡ a .world
-  pub number : s .number ≡ n
-  pub upload : drop (memoryOf (s .config .upload)) up′ ≡ drop (memoryOf (s .config .upload)) up
-  pub response : drop (memoryOf (s .config .response)) away′ ≡ drop (memoryOf (s .config .response)) away
+-- What a line leaves of what is lent to it: its text in the output, and past what its configuration has, each memory as it was.
+pub record Leaves (a : After) (s : Step) (up away m : List ℕ) (z : Step) (up′ away′ m′ : List ℕ) : Type 0 where
+  pub config : z .state .config ≡ a .config
+  pub world : worldIn (z .state .config) (z .state .table) up′ away′ ≡ a .world
+  pub number : z .state .number ≡ s .state .number
+  pub upload : drop (memoryOf (z .state .config .upload)) up′ ≡ drop (memoryOf (z .state .config .upload)) up
+  pub response : drop (memoryOf (z .state .config .response)) away′ ≡ drop (memoryOf (z .state .config .response)) away
+  pub text : Put m (s .at) (a .text) m′ (z .at)
+  pub room : z .at ≤ s .at + lineRoom

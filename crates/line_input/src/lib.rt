@@ -1,20 +1,27 @@
 // The lines of standard input, of any length: read on, with the text that has not ended kept; and output that is written.
 ghost use mathlib.Core.Path.{_≡_};
 ghost use mathlib.Core.Bool.{cond};
-ghost use Prim.Native.Nat.{_-_, _≤_, _<_, min};
+ghost use Prim.Native.Nat.{_+_, _-_, _≤_, _<_, min};
 ghost use lib.Dec.{eqb};
 ghost use lib.ListN.{length, take, replicate};
 ghost use Rattle.pieces.specs.Memory.{patch, part};
+ghost use Rattle.line_input.specs.Sizes.{longest, textSize};
 
-// The longest line that any program reads, and one byte more.
-const LONG: usize = 200001;
+// The longest line that any program reads.
+pub const LONGEST: usize = 200000;
 
-// 200,001 bytes of a line that has not ended, and room for 65,536 more. Lending it as a slice needs its length.
-pub fn text() -> [u8; 265537]
-    ensures { λ r. ⌜ r ≡ replicate 265537 0 ⌝ }
-    ensures { λ r. ⌜ 265537 ≡ length r ⌝ }
+// The longest line and one byte more.
+const LONG: usize = LONGEST + 1;
+
+// A line that has not ended, and room for what is read behind it.
+const TEXT: usize = LONG + 65536;
+
+// The text that is held. Lending it as a slice needs its length.
+pub fn text() -> [u8; TEXT]
+    ensures { λ r. ⌜ r ≡ replicate textSize 0 ⌝ }
+    ensures { λ r. ⌜ textSize ≡ length r ⌝ }
 {
-    [0; 265537]
+    [0; TEXT]
 }
 
 // Reads on behind the bytes that are held, which stay; where the answer is no more than them, or a read failed, the input has ended.
@@ -42,7 +49,7 @@ pub fn turns_left(turns: u64, held: usize, end: usize) -> u64
 // Moves what has not ended to the front of the buffer. More than a line can have is cut: it stays longer than any line that is read.
 pub fn keep(text: &mut [u8], from: usize, end: usize) -> usize
     requires { ⌜ (from ≤ end) × (end ≤ length (now text)) ⌝ }
-    ensures { λ r. ⌜ r ≡ min (end - from) 200001 ⌝ }
+    ensures { λ r. ⌜ r ≡ min (end - from) (longest + 1) ⌝ }
     ensures { λ r. ⌜ now (text .exit) ≡ patch (now (text .entry)) 0 (part (now (text .entry)) from r) ⌝ }
 {
     if LONG < end - from {

@@ -1,36 +1,18 @@
 -- A control line: what each test of the reader says of it. Assumes nothing.
-use mathlib.Core.Path.{_≡_, sym, _∙_}
-use mathlib.Core.Bool.{Bool, true, false, not, _||_}
-use mathlib.Core.List.{[], _∷_}
-use Prim.Native.Nat.{ℕ, _+_}
+use mathlib.Core.Path.{_≡_}
+use mathlib.Core.Bool.{Bool, true, false}
+use mathlib.Core.List.{List, [], _∷_}
+use Prim.Native.Nat.{ℕ, zero, suc, _≤_, _<_}
+use native.Mathlib.Omega.{arith}
 use lib.Dec.{eqb}
-use lib.ListN.{length}
-use borrow.Author.Tests.{not-true, not-false}
-use Rattle.script.specs.Line.{Bytes, fields, between, Fields}
+use lib.ListN.{length, drop}
+use Rattle.script.specs.Fields.{isNumber, value}
+use Rattle.script.specs.Line.{Bytes, fields, at, Fields}
+use Rattle.script.specs.declared.Ends.{Ends}
+use Rattle.script.proofs.Numbers.{and-false}
 use Rattle.keys.specs.Keys.{same}
-use Rattle.replay_control.specs.declared.Control.the-variants.{Show, Other}
-use Rattle.replay_control.specs.Control.{plainText, strictText, isMode, startOf, freshOf, controlOf}
-
--- ---- a test that answers by a Bool of the definitions
-
-pub is : {r b : Bool} → r ≡ b → not r ≡ false → b ≡ true
-is {r} e h = sym e ∙ not-false r h
-
-pub is-not : {r b : Bool} → r ≡ b → not r ≡ true → b ≡ false
-is-not {r} e h = sym e ∙ not-true r h
-
--- ---- the mode
-
-module _ (mode : Bytes) {s p : Bool} (e : s ≡ same mode strictText) (f : p ≡ same mode plainText) where
-  mode-as : (s || p) ≡ isMode mode
-  unfolding isMode
-  mode-as = rw (e, f)
-
-  pub a-mode : not (s || p) ≡ false → isMode mode ≡ true
-  a-mode = is mode-as
-
-  pub no-mode : not (s || p) ≡ true → isMode mode ≡ false
-  no-mode = is-not mode-as
+use Rattle.replay_control.specs.declared.Control.the-variants.{Fresh, Show, Other}
+use Rattle.replay_control.specs.Control.{plainText, strictText, configOf, startOf, freshOf, controlOf}
 
 -- ---- the line
 
@@ -43,7 +25,45 @@ module _ (l : Bytes) (no : same l (83 ∷ []) ≡ false) where
   unfolding controlOf freshOf
   not-six e = rw (no, e)
 
-  pub a-start : {a b c d e : ℕ} → Fields l 0 a b c d e
-      → startOf (between l 0 a) (between l (a + 1) b) (between l (b + 1) c) (between l (c + 1) d) (between l (d + 1) e) (between l (e + 1) (length l)) ≡ controlOf l
+  pub a-start : {e : Ends} → (e .start ≡ 0) × Fields l e → startOf (fields (drop (e .start) l)) ≡ controlOf l
   unfolding controlOf freshOf
-  a-start f = rw (no, f .are)
+  a-start f = let are = rw (f .0) at (f .1 .are) in rw (f .0, no, are)
+
+-- ---- the fields of a fresh start
+
+module _ (fs : List Bytes) where
+  pub no-kind : same (at fs 0) (67 ∷ []) ≡ false → Other ≡ startOf fs
+  unfolding startOf
+  no-kind e = rw e
+
+  module _ (kind : same (at fs 0) (67 ∷ []) ≡ true) where
+    pub strict-start : same (at fs 1) strictText ≡ true → configOf true fs ≡ startOf fs
+    unfolding startOf
+    strict-start e = rw (kind, e)
+
+    module _ (lax : same (at fs 1) strictText ≡ false) where
+      pub plain-start : same (at fs 1) plainText ≡ true → configOf false fs ≡ startOf fs
+      unfolding startOf
+      plain-start e = rw (kind, lax, e)
+
+      pub no-mode : same (at fs 1) plainText ≡ false → Other ≡ startOf fs
+      unfolding startOf
+      no-mode e = rw (kind, lax, e)
+
+  module _ (strict : Bool) where
+    -- any of the four decimals
+    pub no-number : (i : ℕ) → 2 ≤ i → i < 6 → isNumber (at fs i) ≡ false → Other ≡ configOf strict fs
+    unfolding configOf
+    no-number zero h k e = absurd (omega arith)
+    no-number (suc zero) h k e = absurd (omega arith)
+    no-number (suc (suc zero)) h k e = simp (e, and-false)
+    no-number (suc (suc (suc zero))) h k e = simp (e, and-false)
+    no-number (suc (suc (suc (suc zero)))) h k e = simp (e, and-false)
+    no-number (suc (suc (suc (suc (suc zero))))) h k e = simp (e, and-false)
+    no-number (suc (suc (suc (suc (suc (suc i)))))) h k e = absurd (omega arith)
+
+    pub fresh-start : {t l u v : ℕ} → (isNumber (at fs 2) ≡ true) × (t ≡ value (at fs 2)) → (isNumber (at fs 3) ≡ true) × (l ≡ value (at fs 3))
+        → (isNumber (at fs 4) ≡ true) × (u ≡ value (at fs 4)) → (isNumber (at fs 5) ≡ true) × (v ≡ value (at fs 5))
+        → Fresh (record { strict = strict; limit = t; lifetime = l; upload = u; response = v }) ≡ configOf strict fs
+    unfolding configOf
+    fresh-start t l u v = rw (t .0, l .0, u .0, v .0, t .1, l .1, u .1, v .1)

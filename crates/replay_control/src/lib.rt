@@ -4,7 +4,6 @@ use config::Config;
 mod lines;
 
 pub use lines::control_of;
-pub use lines::memory_of;
 pub use lines::put_config;
 
 // What a line asks for that is no call.

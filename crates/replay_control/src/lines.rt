@@ -1,52 +1,31 @@
 // The lines that a replay has besides calls: a fresh start under another configuration, and the state shown.
 use crate::Control;
 use config::Config;
+use script::Ends;
+use script::Number;
 use script::Split;
-use script_fields::Number;
 ghost use mathlib.Core.Path.{_≡_};
-ghost use Prim.Native.Nat.{_+_, _*_, _≤_, min};
-ghost use lib.ListN.{length};
+ghost use Prim.Native.Nat.{_+_, _≤_};
+ghost use lib.ListN.{length, drop};
 ghost use Rattle.pieces.specs.Memory.{Put};
-ghost use Rattle.replay_control.specs.Control.{startOf, controlOf, configText};
+ghost use Rattle.script.specs.Line.{fields, Fields};
+ghost use Rattle.replay_control.specs.Control.{configOf, startOf, controlOf, configText};
 
-// The length of a memory of sixteen pieces, each no longer than the longest that the limits allow.
-pub fn memory_of(piece: usize) -> usize
-    ensures { λ r. ⌜ (r ≡ 16 * min piece 65536) × (r ≤ 1048576) ⌝ }
+// The last four fields of a fresh start: T, LIFETIME, U and V.
+fn config_of(strict: bool, line: &[u8], ends: Ends) -> Control
+    requires { ⌜ Fields (now line) ends ⌝ }
+    ensures { λ r. ⌜ r ≡ configOf strict (fields (drop (ends .start) (now (line .entry)))) ⌝ }
 {
-    if piece < 65536 {
-        return 16 * piece;
-    }
-    16 * 65536
-}
-
-// The six fields of a fresh start: `C`, MODE, T, LIFETIME, U and V.
-fn start_of<'a>(
-    kind: &'a [u8],
-    mode: &'a [u8],
-    limit: &'a [u8],
-    lifetime: &'a [u8],
-    upload: &'a [u8],
-    response: &'a [u8],
-) -> Control
-    ensures { λ r. ⌜ r ≡ startOf (now (kind .entry)) (now (mode .entry)) (now (limit .entry)) (now (lifetime .entry)) (now (upload .entry)) (now (response .entry)) ⌝ }
-{
-    if !keys::same_bytes(kind, b"C") {
-        return Control::Other;
-    }
-    let strict = keys::same_bytes(mode, b"strict");
-    if !(strict | keys::same_bytes(mode, b"plain")) {
-        return Control::Other;
-    }
-    let Number::Value(t) = script_fields::number_field(limit) else {
+    let Number::Value(t) = script::number_field(script::field(line, ends, 2)) else {
         return Control::Other;
     };
-    let Number::Value(l) = script_fields::number_field(lifetime) else {
+    let Number::Value(l) = script::number_field(script::field(line, ends, 3)) else {
         return Control::Other;
     };
-    let Number::Value(u) = script_fields::number_field(upload) else {
+    let Number::Value(u) = script::number_field(script::field(line, ends, 4)) else {
         return Control::Other;
     };
-    let Number::Value(v) = script_fields::number_field(response) else {
+    let Number::Value(v) = script::number_field(script::field(line, ends, 5)) else {
         return Control::Other;
     };
     Control::Fresh(Config {
@@ -56,6 +35,24 @@ fn start_of<'a>(
         upload: u as usize,
         response: v as usize,
     })
+}
+
+// The six fields of a fresh start: `C` and MODE come first.
+fn start_of(line: &[u8], ends: Ends) -> Control
+    requires { ⌜ Fields (now line) ends ⌝ }
+    ensures { λ r. ⌜ r ≡ startOf (fields (drop (ends .start) (now (line .entry)))) ⌝ }
+{
+    if !keys::same_bytes(script::field(line, ends, 0), b"C") {
+        return Control::Other;
+    }
+    let mode = script::field(line, ends, 1);
+    if keys::same_bytes(mode, b"strict") {
+        return config_of(true, line, ends);
+    }
+    if keys::same_bytes(mode, b"plain") {
+        return config_of(false, line, ends);
+    }
+    Control::Other
 }
 
 // `C MODE T LIFETIME U V`, or `S`.
@@ -68,25 +65,7 @@ pub fn control_of(line: &[u8]) -> Control
     let Split::Six(ends) = script::split_six(line, 0) else {
         return Control::Other;
     };
-    let n = line.len();
-    let a = ends.first;
-    let b = ends.second;
-    let c = ends.third;
-    let d = ends.fourth;
-    let e = ends.fifth;
-    let a1 = a + 1;
-    let b1 = b + 1;
-    let c1 = c + 1;
-    let d1 = d + 1;
-    let e1 = e + 1;
-    start_of(
-        &line[0..a],
-        &line[a1..b],
-        &line[b1..c],
-        &line[c1..d],
-        &line[d1..e],
-        &line[e1..n],
-    )
+    start_of(line, ends)
 }
 
 // `N config - - -`

@@ -11,16 +11,18 @@ use borrow.Author.Tests.{ltb-false, eq-eqb, ne-eqb}
 use Rattle.pieces.specs.Memory.{patch, Put}
 use Rattle.script.specs.Line.{cutAt, between, UpTo}
 use Rattle.script.proofs.Splitting.{next-field, last-field, some-field}
+use Rattle.line_input.specs.Sizes.{much}
 use Rattle.script_state.specs.declared.State.{State}
+use Rattle.script_state.specs.declared.Step.{Step}
 use Rattle.script_state.specs.Start.{header, begun}
 use Rattle.fresh_start.specs.Leaves.{Leaves}
-use Rattle.runner.specs.Lines.{Standing, standing, nextLine, afterLine, afterLines, waitsAfter, waitsAfterLines, lastOf, unended, afterLast, lastText, afterScript, waitsAfterScript}
+use Rattle.runner.specs.Lines.{Standing, standing, next, nextLine, afterLine, afterLines, waitsAfter, waitsAfterLines, lastOf, unended, afterLast, lastText, afterScript, waitsAfterScript}
 
 -- ---- one line after another
 
-pub stands : (replay : Bool) (s : Standing) (l up away : List ℕ) (s′ : State) (up′ away′ : List ℕ)
-    → Leaves (nextLine replay s l) ((afterLine replay s l) .number) up away s′ up′ away′ → standing s′ up′ away′ ≡ afterLine replay s l
-stands replay s l up away s′ up′ away′ h = λ i. record { config = h .config i; world = h .world i; number = h .number i }
+pub stands : (replay : Bool) (s : Standing) (l : List ℕ) {up away m up′ away′ m′ : List ℕ} {x z : Step} → Leaves (nextLine replay s l) x up away m z up′ away′ m′
+    → x .state .number ≡ next s → standing (z .state) up′ away′ ≡ afterLine replay s l
+stands replay s l h e = λ i. record { config = h .config i; world = h .world i; number = (h .number ∙ e) i }
 
 module _ (replay : Bool) (s : Standing) (l : List ℕ) where
   one-more : (ls : List (List ℕ)) → 0 < length ls → afterLines replay s (l ∷ ls) ≡ afterLines replay (afterLine replay s l) ls
@@ -82,23 +84,23 @@ put-waits {m} {at} {b} {m′} {r} p =
     ap (take r) (p .is ∙ sym (append-assoc (take at m) b (drop (at + length b) m))) ∙ take-at (take at m ++ b) (drop (at + length b) m) r long
 
 -- And is written where it is much.
-pub put-flushed : {m : List ℕ} {at : ℕ} {b m′ : List ℕ} {r k : ℕ} → Put m at b m′ r → k ≡ cond (ltb 65536 r) 0 r → take k m′ ≡ waitsAfter (take at m) b
+pub put-flushed : {m : List ℕ} {at : ℕ} {b m′ : List ℕ} {r k : ℕ} → Put m at b m′ r → k ≡ cond (ltb much r) 0 r → take k m′ ≡ waitsAfter (take at m) b
 unfolding waitsAfter
 put-flushed {m} {at} {b} {m′} {r} {k} p e =
     let w : take r m′ ≡ take at m ++ b = put-waits p in
     let long : r ≡ length (take at m ++ b) = sym (length-append (take at m) b ∙ omega (arith, length-take-le at m (omega (arith, p .room)), p .to)) in
-    rw (e, ← long, ← w) (go (ltb 65536 r))
+    rw (e, ← long, ← w) (go (ltb much r))
   where
     go : (t : Bool) → take (cond t 0 r) m′ ≡ cond t [] (take r m′)
     go true = refl
     go false = refl
 
-pub few : (r : ℕ) (k : ℕ) → k ≡ cond (ltb 65536 r) 0 r → k ≤ 65536
-few r k e = rw e (go (ltb 65536 r) refl)
+pub few : (r : ℕ) (k : ℕ) → k ≡ cond (ltb much r) 0 r → k ≤ much
+few r k e = rw e (go (ltb much r) refl)
   where
-    go : (t : Bool) → ltb 65536 r ≡ t → cond t 0 r ≤ 65536
+    go : (t : Bool) → ltb much r ≡ t → cond t 0 r ≤ much
     go true f = omega arith
-    go false f = omega (arith, ltb-false 65536 r f)
+    go false f = omega (arith, ltb-false much r f)
 
 -- ---- the last line
 

@@ -10,7 +10,8 @@ use Rattle.script.specs.Line.{cutAt}
 use Rattle.script_state.specs.declared.State.{State}
 use Rattle.script_state.specs.Start.{header}
 use Rattle.fresh_start.specs.Leaves.{After, worldIn}
-use Rattle.line_runner.specs.Line.{lineRun}
+use Rattle.line_input.specs.Sizes.{much}
+use Rattle.runner.specs.Line.{lineRun}
 
 -- Where a script stands: the number is that of the last line.
 pub record Standing : Type 0 where
@@ -34,9 +35,9 @@ afterLines replay s [] = s
 afterLines replay s (l ∷ []) = s
 afterLines replay s (l ∷ m ∷ ls) = afterLines replay (afterLine replay s l) (m ∷ ls)
 
--- What waits to be written after a line: its text behind what waited. More than 65,536 bytes are written at once, and nothing waits.
+-- What waits to be written after a line: its text behind what waited. Where it is much it is written at once, and nothing waits.
 unfoldable pub waitsAfter : List ℕ → List ℕ → List ℕ
-waitsAfter waiting text = cond (ltb 65536 (length (waiting ++ text))) [] (waiting ++ text)
+waitsAfter waiting text = cond (ltb much (length (waiting ++ text))) [] (waiting ++ text)
 
 -- What waits after each line that has ended.
 unfoldable pub waitsAfterLines : Bool → Standing → List ℕ → List (List ℕ) → List ℕ

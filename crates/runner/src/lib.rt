@@ -1,6 +1,7 @@
 // The run of a script, line by line. Both programs are loops over it.
-use script_state::State;
+use script_state::Step;
 
+mod line;
 mod lines;
 
 pub use lines::run_last;
@@ -9,7 +10,6 @@ pub use lines::run_script;
 
 // What many lines leave, and where the text starts that has not ended.
 pub struct Rest {
-    pub state: State,
-    pub at: usize,
+    pub step: Step,
     pub from: usize,
 }

@@ -8,9 +8,9 @@ use native.Mathlib.Omega.{arith}
 use lib.Dec.{ltb}
 use lib.ListN.{length, length-append}
 use borrow.Author.Tests.{lt-ltb, ltb-true, ltb-false, le-leb, lt-leb, ne-eqb}
-use Rattle.script_fields.specs.Fields.{isDigit, allDigits, valueFrom, value, isNumber, nibble, isHex, isPairs, pairsOf, isMark, isBytes, bytesOf}
+use Rattle.script.specs.Fields.{isDigit, allDigits, valueFrom, value, isNumber, nibble, isHex, isPairs, pairsOf, isMark, isBytes, bytesOf}
 use Rattle.script_text.specs.Text.{decimalFrom, decimal, hexDigit, hex, shown}
-use Rattle.script_fields.proofs.Numbers.{both}
+use Rattle.pieces.proofs.Tests.{both}
 use Rattle.script_text.proofs.Laws.{hex-length}
 
 -- ---- decimals

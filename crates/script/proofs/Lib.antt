@@ -1,2 +1,5 @@
-pub mod Splitting
 pub mod Back
+pub mod Lines
+pub mod Numbers
+pub mod Pairs
+pub mod Splitting

@@ -1,11 +1,15 @@
 -- The grammar of a script line: `Q now key bare block1 block2 payload` or `P now key bare own head payload`.
-use Prim.Native.Nat.{ℕ, _+_, _-_, _≤_, _<_}
+use Prim.Native.Nat.{ℕ, _+_, _-_, _*_, _≤_, _<_}
 use mathlib.Core.Path.{_≡_}
-use mathlib.Core.Bool.{Bool, false, cond, _&&_}
+use mathlib.Core.Bool.{Bool, true, false, cond, _&&_}
 use mathlib.Core.List.{List, [], _∷_}
 use lib.Dec.{eqb, ltb, leb}
 use lib.ListN.{length, getD, take, drop}
-use Rattle.script_fields.specs.Fields.{isNumber, value, isBytes, bytesOf, isOption, isGiven, optionBytes}
+use Rattle.script.specs.Fields.{isNumber, value, isBytes, bytesOf, isOption, isGiven, optionBytes}
+use Rattle.script.specs.declared.Call.{Call}
+use Rattle.script.specs.declared.Called.{Called}
+use Rattle.script.specs.declared.Called.the-variants as called
+use Rattle.script.specs.declared.Ends.{Ends}
 use Rattle.script.specs.declared.Line.{Line}
 use Rattle.script.specs.declared.Line.the-variants as line
 use Rattle.script.specs.declared.Split.{Split}
@@ -40,25 +44,30 @@ fields l = cutAt 32 l
 
 -- ---- what six fields say
 
-unfoldable pub requestOf : Bytes → Bytes → Bytes → Bytes → Bytes → Bytes → Said
-requestOf time key bare block1 block2 payload =
-    cond (isNumber time && (isBytes key && (isNumber bare && (isOption block1 && (isOption block2 && isBytes payload)))))
-    (request (value time) (bytesOf key) (value bare) (isGiven block1) (optionBytes block1) (isGiven block2) (optionBytes block2) (bytesOf payload))
+abbrev pub at : List Bytes → ℕ → Bytes
+at fs i = getD fs i []
+
+-- What both kinds of line have: a time, a key, a count of options and a payload.
+unfoldable pub isCall : List Bytes → Bool
+isCall fs = isNumber (at fs 0) && (isNumber (at fs 2) && (isBytes (at fs 1) && isBytes (at fs 5)))
+
+unfoldable pub requestOf : List Bytes → Said
+requestOf fs =
+    cond (isCall fs && (isOption (at fs 3) && isOption (at fs 4)))
+    (request (value (at fs 0)) (bytesOf (at fs 1)) (value (at fs 2)) (isGiven (at fs 3)) (optionBytes (at fs 3)) (isGiven (at fs 4))
+    (optionBytes (at fs 4)) (bytesOf (at fs 5)))
     unreadable
 
 -- Own is 0 or 1.
-unfoldable pub responseOf : Bytes → Bytes → Bytes → Bytes → Bytes → Bytes → Said
-responseOf time key bare own head payload =
-    cond (isNumber time && (isBytes key && (isNumber bare && (isNumber own && (leb (value own) 1 && (isBytes head && isBytes payload))))))
-    (response (value time) (bytesOf key) (value bare) (eqb (value own) 1) (bytesOf head) (bytesOf payload))
+unfoldable pub responseOf : List Bytes → Said
+responseOf fs =
+    cond (isCall fs && (isNumber (at fs 3) && (leb (value (at fs 3)) 1 && isBytes (at fs 4))))
+    (response (value (at fs 0)) (bytesOf (at fs 1)) (value (at fs 2)) (eqb (value (at fs 3)) 1) (bytesOf (at fs 4)) (bytesOf (at fs 5)))
     unreadable
 
--- The six fields handed to a rule; any other number of them is unreadable.
-unfoldable pub six : (Bytes → Bytes → Bytes → Bytes → Bytes → Bytes → Said) → List Bytes → Said
-six rule fs =
-    cond (eqb (length fs) 6)
-    (rule (getD fs 0 []) (getD fs 1 []) (getD fs 2 []) (getD fs 3 []) (getD fs 4 []) (getD fs 5 []))
-    unreadable
+-- Six fields handed to a rule; any other number of them is unreadable.
+unfoldable pub six : (List Bytes → Said) → List Bytes → Said
+six rule fs = cond (eqb (length fs) 6) (rule fs) unreadable
 
 -- ---- a line: Q or P, a space, and six fields
 
@@ -67,24 +76,6 @@ kindOf kind rest = cond (eqb kind 81) (six requestOf (fields rest)) (cond (eqb k
 
 unfoldable pub lineOf : Bytes → Said
 lineOf l = cond (ltb (length l) 2) unreadable (cond (eqb (getD l 1 0) 32) (kindOf (getD l 0 0) (drop 2 l)) unreadable)
-
--- ---- what the reader's answer says, with the bytes at the start of each buffer
-
-abbrev pub saidBy : Line → Bytes → Bytes → Bytes → Bytes → Said
-saidBy (line.Request r) key first second payload =
-    request (r .time) (take (r .key) key) (r .bare) (r .block1 .given) (take (r .block1 .len) first) (r .block2 .given)
-    (take (r .block2 .len) second) (take (r .payload) payload)
-saidBy (line.Response r) key first second payload =
-    response (r .time) (take (r .key) key) (r .bare) (r .own) (take (r .head) first) (take (r .payload) payload)
-saidBy line.Unreadable key first second payload = unreadable
-
--- Each length that the answer names is within its buffer.
-abbrev pub InBuffers : Line → Bytes → Bytes → Bytes → Bytes → Type 0
-InBuffers (line.Request r) key first second payload =
-    (r .key ≤ length key) × (r .block1 .len ≤ length first) × (r .block2 .len ≤ length second) × (r .payload ≤ length payload)
-InBuffers (line.Response r) key first second payload =
-    (r .key ≤ length key) × (r .head ≤ length first) × (r .payload ≤ length payload)
-InBuffers line.Unreadable key first second payload = Unit {0}
 
 -- ---- the ends of fields
 
@@ -97,16 +88,58 @@ pub record UpTo (mark : ℕ) (l : Bytes) (from r : ℕ) : Type 0 where
   pub within : r ≤ length l
   pub is : cutAt mark (drop from l) ≡ between l from r ∷ cond (ltb r (length l)) (cutAt mark (drop (r + 1) l)) []
 
--- Six fields from an index on, with these ends; or not six.
-pub record Fields (l : Bytes) (from a b c d e : ℕ) : Type 0 where
-  pub start : from ≤ a
-  pub one : a < b
-  pub two : b < c
-  pub three : c < d
-  pub four : d < e
-  pub five : e < length l
-  pub are : fields (drop from l) ≡ between l from a ∷ between l (a + 1) b ∷ between l (b + 1) c ∷ between l (c + 1) d ∷ between l (d + 1) e ∷ between l (e + 1) (length l) ∷ []
+-- The field behind a space is cut first at r; behind the end there is none.
+pub record Next (l : Bytes) (space r : ℕ) : Type 0 where
+  pub behind : space < length l → UpTo 32 l (space + 1) r
+  pub none : length l ≤ space → r ≡ length l
 
+-- Six fields with these ends.
+pub record Fields (l : Bytes) (e : Ends) : Type 0 where
+  pub zero : e .start ≤ e .first
+  pub one : e .first < e .second
+  pub two : e .second < e .third
+  pub three : e .third < e .fourth
+  pub four : e .fourth < e .fifth
+  pub five : e .fifth < length l
+  pub are : fields (drop (e .start) l) ≡ between l (e .start) (e .first) ∷ between l (e .first + 1) (e .second) ∷ between l (e .second + 1) (e .third) ∷ between l (e .third + 1) (e .fourth) ∷ between l (e .fourth + 1) (e .fifth) ∷ between l (e .fifth + 1) (length l) ∷ []
+
+abbrev pub fieldOf : Bytes → Ends → ℕ → Bytes
+fieldOf l e i = at (fields (drop (e .start) l)) i
+
+-- Six fields from an index on; or not six.
 abbrev pub Parts : Bytes → ℕ → Split → Type 0
-Parts l from (split.Six s) = Fields l from (s .first) (s .second) (s .third) (s .fourth) (s .fifth)
+Parts l from (split.Six e) = (e .start ≡ from) × Fields l e
 Parts l from split.Other = eqb (length (fields (drop from l))) 6 ≡ false
+
+-- ---- what the reader's answer says, with the buffer
+
+-- What both kinds have is read: the key stands first in the buffer, then the payload.
+pub record CallIs (c : Call) (fs : List Bytes) (m : Bytes) : Type 0 where
+  pub good : isCall fs ≡ true
+  pub time : c .time ≡ value (at fs 0)
+  pub bare : c .bare ≡ value (at fs 2)
+  pub key : take (c .key) m ≡ bytesOf (at fs 1)
+  pub payload : between m (c .key) (c .payload) ≡ bytesOf (at fs 5)
+  pub order : c .key ≤ c .payload
+  pub within : c .payload ≤ length m
+  pub half : 2 * c .payload ≤ length (at fs 1) + length (at fs 5)
+
+pub record CallRead (r : Called) (fs : List Bytes) (m : Bytes) : Type 0 where
+  pub call : (c : Call) → r ≡ called.Call c → CallIs c fs m
+  pub bad : r ≡ called.Bad → isCall fs ≡ false
+
+-- Behind the payload stand block 1 and block 2, or the head.
+abbrev pub saidBy : Line → Bytes → Said
+saidBy (line.Request r) m =
+    request (r .call .time) (take (r .call .key) m) (r .call .bare) (r .given1) (between m (r .call .payload) (r .block1)) (r .given2)
+    (between m (r .block1) (r .block2)) (between m (r .call .key) (r .call .payload))
+saidBy (line.Response r) m =
+    response (r .call .time) (take (r .call .key) m) (r .call .bare) (r .own) (between m (r .call .payload) (r .head))
+    (between m (r .call .key) (r .call .payload))
+saidBy line.Unreadable m = unreadable
+
+-- The parts that the answer names follow each other within the buffer.
+abbrev pub InBuffer : Line → Bytes → Type 0
+InBuffer (line.Request r) m = (r .call .key ≤ r .call .payload) × (r .call .payload ≤ r .block1) × (r .block1 ≤ r .block2) × (r .block2 ≤ length m)
+InBuffer (line.Response r) m = (r .call .key ≤ r .call .payload) × (r .call .payload ≤ r .head) × (r .head ≤ length m)
+InBuffer line.Unreadable m = Unit {0}

@@ -1,14 +1,18 @@
 -- What a line of a script does: the call that it says, on the table and both memories, and the line that is printed.
-use Prim.Native.Nat.{ℕ}
+use Prim.Native.Nat.{ℕ, _+_, _≤_}
 use mathlib.Core.Path.{_≡_}
 use mathlib.Core.List.{List}
 use Rattle.config.specs.declared.Config.{Config}
+use Rattle.block_table.specs.declared.Table.{Table}
 use Rattle.block_handler.specs.Call.{World, Done, call}
 use Rattle.block_handler.specs.Contract.{requestCall, responseCall}
 use Rattle.script.specs.Line.{Said, request, response, unreadable}
 use Rattle.answer_text.specs.Answer.{answerText, unreadableText}
 use Rattle.pieces.specs.Memory.{Put}
 use Rattle.script_shown.specs.Shown.{shownOf}
+use Rattle.script_state.specs.Sizes.{lineRoom}
+use Rattle.script_state.specs.declared.State.{State}
+use Rattle.script_state.specs.declared.Step.{Step}
 
 -- What is printed of a call that is done: parts of the memories as the call left them.
 abbrev pub printed : ℕ → Done → List ℕ → List ℕ
@@ -25,7 +29,13 @@ textAfter c w n (request t k b g1 o1 g2 o2 p) = printed n (call c w (requestCall
 textAfter c w n (response t k b own h p) = printed n (call c w (responseCall t k b own h p)) p
 textAfter c w n unreadable = unreadableText n
 
--- From the world w, line n that says s leaves w′, and its text in the output m at `at`.
-pub record Runs (c : Config) (w : World) (n : ℕ) (s : Said) (m : List ℕ) (at : ℕ) (w′ : World) (m′ : List ℕ) (r : ℕ) : Type 0 where
-  pub world : w′ ≡ worldAfter c w s
-  pub text : Put m at (textAfter c w n s) m′ r
+-- The state with another table.
+abbrev pub withTable : State → Table → State
+withTable s t = record { config = s .config; table = t; number = s .number }
+
+-- A line that says q, run on the world w, leaves w′ and z, and its text in the output m.
+pub record Runs (s : Step) (w : World) (q : Said) (m : List ℕ) (z : Step) (w′ : World) (m′ : List ℕ) : Type 0 where
+  pub state : z .state ≡ withTable (s .state) (w′ .table)
+  pub world : w′ ≡ worldAfter (s .state .config) w q
+  pub text : Put m (s .at) (textAfter (s .state .config) w (s .state .number) q) m′ (z .at)
+  pub room : z .at ≤ s .at + lineRoom

@@ -1,126 +1,146 @@
-// The call that a line says, made and printed.
+// One line that is a call: read, called, printed.
 use block_handler::Outcome;
-use block_table::Table;
-use config::Config;
 use script::Line;
 use script::Request;
 use script::Response;
+use script_state::State;
+use script_state::Step;
 ghost use mathlib.Core.Path.{_≡_};
 ghost use Prim.Native.Nat.{_+_, _*_, _≤_};
 ghost use lib.ListN.{length};
-ghost use Rattle.block_handler.specs.Contract.{world};
-ghost use Rattle.script.specs.Line.{InBuffers, saidBy};
 ghost use Rattle.answer_text.specs.Answer.{answerText};
+ghost use Rattle.block_handler.specs.Contract.{world};
 ghost use Rattle.pieces.specs.Memory.{Put};
+ghost use Rattle.script.specs.Line.{InBuffer, saidBy, lineOf};
+ghost use Rattle.script_call.specs.Run.{Runs, withTable};
 ghost use Rattle.script_shown.specs.Shown.{shownOf};
-ghost use Rattle.script_call.specs.Run.{Runs};
-
-// What a line leaves: the table, and where the next output goes.
-pub struct Ran {
-    pub table: Table,
-    pub at: usize,
-}
+ghost use Rattle.script_state.specs.Sizes.{memorySize, lineRoom};
 
 // An answer, with what it shows of the message's payload and of the memories as the call left them.
 fn print<'a>(
+    step: Step,
     outcome: Outcome,
-    n: u64,
     payload: &'a [u8],
     upload: &'a [u8],
     response: &'a [u8],
     out: &mut [u8],
-    at: usize,
-) -> Ran
-    requires { ⌜ (length (now payload) ≤ 1048576) × (length (now upload) ≤ 1048576) × (length (now response) ≤ 1048576) ⌝ }
-    requires { ⌜ at + 2 * 1048576 + 200 ≤ length (now out) ⌝ }
-    ensures { λ z. ⌜ z .table ≡ outcome .table ⌝ }
-    ensures { λ z. ⌜ Put (now (out .entry)) at (answerText n (outcome .answer) (shownOf (outcome .answer) (now (payload .entry)) (now (upload .entry)) (now (response .entry)))) (now (out .exit)) (z .at) ⌝ }
-    ensures { λ z. ⌜ z .at ≤ at + 2 * 1048576 + 200 ⌝ }
+) -> Step
+    requires { ⌜ (length (now payload) ≤ memorySize) × (length (now upload) ≤ memorySize) × (length (now response) ≤ memorySize) ⌝ }
+    requires { ⌜ step .at + lineRoom ≤ length (now out) ⌝ }
+    ensures { λ z. ⌜ z .state ≡ withTable (step .state) (outcome .table) ⌝ }
+    ensures { λ z. ⌜ Put (now (out .entry)) (step .at) (answerText (step .state .number) (outcome .answer) (shownOf (outcome .answer) (now (payload .entry)) (now (upload .entry)) (now (response .entry)))) (now (out .exit)) (z .at) ⌝ }
+    ensures { λ z. ⌜ z .at ≤ step .at + lineRoom ⌝ }
 {
+    let state = step.state;
+    let config = state.config;
+    let number = state.number;
     let answer = outcome.answer;
     let bytes = script_shown::shown(answer, payload, upload, response);
-    let next = answer_text::put_answer(out, at, n, answer, bytes);
+    let at = answer_text::put_answer(out, step.at, number, answer, bytes);
     let table = outcome.table;
-    Ran { table, at: next }
+    Step {
+        state: State {
+            config,
+            table,
+            number,
+        },
+        at,
+    }
 }
 
-pub fn ask<'a>(
-    r: Request,
-    config: Config,
-    table: Table,
+// A request. Its fields' bytes stand in the buffer.
+fn ask<'a>(
+    step: Step,
+    request: Request,
     upload: &mut [u8],
     response: &'a [u8],
-    n: u64,
-    key: &'a [u8],
-    first: &'a [u8],
-    second: &'a [u8],
-    payload: &'a [u8],
+    scratch: &'a [u8],
     out: &mut [u8],
-    at: usize,
-) -> Ran
-    requires { ⌜ InBuffers (Line.Request r) (now key) (now first) (now second) (now payload) ⌝ }
-    requires { ⌜ (length (now payload) ≤ 1048576) × (length (now upload) ≤ 1048576) × (length (now response) ≤ 1048576) ⌝ }
-    requires { ⌜ at + 2 * 1048576 + 200 ≤ length (now out) ⌝ }
-    ensures { λ z. ⌜ Runs config (world table (now (upload .entry)) (now (response .entry))) n (saidBy (Line.Request r) (now (key .entry)) (now (first .entry)) (now (second .entry)) (now (payload .entry))) (now (out .entry)) at (world (z .table) (now (upload .exit)) (now (response .entry))) (now (out .exit)) (z .at) ⌝ }
-    ensures { λ z. ⌜ z .at ≤ at + 2 * 1048576 + 200 ⌝ }
+) -> Step
+    requires { ⌜ InBuffer (Line.Request request) (now scratch) × (length (now scratch) ≤ memorySize) ⌝ }
+    requires { ⌜ (length (now upload) ≤ memorySize) × (length (now response) ≤ memorySize) × (step .at + lineRoom ≤ length (now out)) ⌝ }
+    ensures { λ z. ⌜ Runs step (world (step .state .table) (now (upload .entry)) (now (response .entry))) (saidBy (Line.Request request) (now (scratch .entry))) (now (out .entry)) z (world (z .state .table) (now (upload .exit)) (now (response .entry))) (now (out .exit)) ⌝ }
 {
-    let k = r.key;
-    let block1 = r.block1;
-    let block2 = r.block2;
-    let len1 = block1.len;
-    let len2 = block2.len;
-    let p = r.payload;
+    let state = step.state;
+    let config = state.config;
+    let table = state.table;
+    let call = request.call;
+    let k = call.key;
+    let p = call.payload;
+    let o1 = request.block1;
+    let o2 = request.block2;
     let outcome = block_handler::intercept_request(
         config,
         table,
         upload,
         response,
-        r.time,
-        &key[..k],
-        r.bare,
-        block1.given,
-        &first[..len1],
-        block2.given,
-        &second[..len2],
-        &payload[..p],
+        call.time,
+        &scratch[..k],
+        call.bare,
+        request.given1,
+        &scratch[p..o1],
+        request.given2,
+        &scratch[o1..o2],
+        &scratch[k..p],
     );
-    print(outcome, n, &payload[..p], upload, response, out, at)
+    print(step, outcome, &scratch[k..p], upload, response, out)
 }
 
-pub fn reply<'a>(
-    r: Response,
-    config: Config,
-    table: Table,
+// A response likewise.
+fn reply<'a>(
+    step: Step,
+    replied: Response,
     upload: &'a [u8],
     response: &mut [u8],
-    n: u64,
-    key: &'a [u8],
-    first: &'a [u8],
-    second: &'a [u8],
-    payload: &'a [u8],
+    scratch: &'a [u8],
     out: &mut [u8],
-    at: usize,
-) -> Ran
-    requires { ⌜ InBuffers (Line.Response r) (now key) (now first) (now second) (now payload) ⌝ }
-    requires { ⌜ (length (now payload) ≤ 1048576) × (length (now upload) ≤ 1048576) × (length (now response) ≤ 1048576) ⌝ }
-    requires { ⌜ at + 2 * 1048576 + 200 ≤ length (now out) ⌝ }
-    ensures { λ z. ⌜ Runs config (world table (now (upload .entry)) (now (response .entry))) n (saidBy (Line.Response r) (now (key .entry)) (now (first .entry)) (now (second .entry)) (now (payload .entry))) (now (out .entry)) at (world (z .table) (now (upload .entry)) (now (response .exit))) (now (out .exit)) (z .at) ⌝ }
-    ensures { λ z. ⌜ z .at ≤ at + 2 * 1048576 + 200 ⌝ }
+) -> Step
+    requires { ⌜ InBuffer (Line.Response replied) (now scratch) × (length (now scratch) ≤ memorySize) ⌝ }
+    requires { ⌜ (length (now upload) ≤ memorySize) × (length (now response) ≤ memorySize) × (step .at + lineRoom ≤ length (now out)) ⌝ }
+    ensures { λ z. ⌜ Runs step (world (step .state .table) (now (upload .entry)) (now (response .entry))) (saidBy (Line.Response replied) (now (scratch .entry))) (now (out .entry)) z (world (z .state .table) (now (upload .entry)) (now (response .exit))) (now (out .exit)) ⌝ }
 {
-    let k = r.key;
-    let h = r.head;
-    let p = r.payload;
+    let state = step.state;
+    let config = state.config;
+    let table = state.table;
+    let call = replied.call;
+    let k = call.key;
+    let p = call.payload;
+    let h = replied.head;
     let outcome = block_handler::intercept_response(
         config,
         table,
         upload,
         response,
-        r.time,
-        &key[..k],
-        r.bare,
-        r.own,
-        &first[..h],
-        &payload[..p],
+        call.time,
+        &scratch[..k],
+        call.bare,
+        replied.own,
+        &scratch[p..h],
+        &scratch[k..p],
     );
-    print(outcome, n, &payload[..p], upload, response, out, at)
+    print(step, outcome, &scratch[k..p], upload, response, out)
+}
+
+// One line: read, called, printed. A line that cannot be read changes nothing.
+pub fn run_line(
+    step: Step,
+    line: &[u8],
+    upload: &mut [u8],
+    response: &mut [u8],
+    scratch: &mut [u8],
+    out: &mut [u8],
+) -> Step
+    requires { ⌜ (length (now line) ≤ 2 * length (now scratch)) × (length (now scratch) ≤ memorySize) ⌝ }
+    requires { ⌜ (length (now upload) ≤ memorySize) × (length (now response) ≤ memorySize) × (step .at + lineRoom ≤ length (now out)) ⌝ }
+    ensures { λ z. ⌜ Runs step (world (step .state .table) (now (upload .entry)) (now (response .entry))) (lineOf (now (line .entry))) (now (out .entry)) z (world (z .state .table) (now (upload .exit)) (now (response .exit))) (now (out .exit)) ⌝ }
+{
+    match script::read_line(line, scratch) {
+        Line::Request(r) => ask(step, r, upload, response, scratch, out),
+        Line::Response(r) => reply(step, r, upload, response, scratch, out),
+        Line::Unreadable => {
+            let state = step.state;
+            let at = answer_text::put_unreadable(out, step.at, state.number);
+            Step { state, at }
+        }
+    }
 }

@@ -7,6 +7,7 @@ ghost use mathlib.Core.Bool.{cond};
 ghost use lib.Dec.{ltb};
 ghost use lib.ListN.{length};
 ghost use Rattle.pieces.specs.Memory.{Put};
+ghost use Rattle.line_input.specs.Sizes.{much};
 ghost use Rattle.script_state.specs.Start.{scriptConfig, header, begun};
 
 pub mod buffers;
@@ -44,7 +45,7 @@ pub fn start(out: &mut [u8]) -> Step
     requires { ⌜ 32 ≤ length (now out) ⌝ }
     ensures { λ r. ⌜ r .state ≡ begun ⌝ }
     ensures { λ r. ⌜ Put (now (out .entry)) 0 header (now (out .exit)) (r .at) ⌝ }
-    ensures { λ r. ⌜ r .at ≤ 65536 ⌝ }
+    ensures { λ r. ⌜ r .at ≤ much ⌝ }
 {
     let at = pieces::put(out, 0, b"line answer block1 block2 bytes\n");
     let table = block_table::fresh();
@@ -60,26 +61,31 @@ pub fn start(out: &mut [u8]) -> Step
 }
 
 // One more line is counted.
-pub fn counted(state: State) -> State
-    ensures { λ r. ⌜ r ≡ record { config = state .config; table = state .table; number = (state .number + 1) % 2 ^ 64 } ⌝ }
+pub fn counted(step: Step) -> Step
+    ensures { λ r. ⌜ r ≡ record { state = record { config = step .state .config; table = step .state .table; number = (step .state .number + 1) % 2 ^ 64 }; at = step .at } ⌝ }
 {
+    let state = step.state;
     let config = state.config;
     let table = state.table;
-    State {
-        config,
-        table,
-        number: std::num::wrapping_add_u64(state.number, 1),
+    Step {
+        state: State {
+            config,
+            table,
+            number: std::num::wrapping_add_u64(state.number, 1),
+        },
+        at: step.at,
     }
 }
 
 // Writes what waits, once it is much.
-pub fn flushed(out: &[u8], at: usize) -> usize
-    requires { ⌜ at ≤ length (now out) ⌝ }
-    ensures { λ r. ⌜ r ≡ cond (ltb 65536 at) 0 at ⌝ }
+pub fn flushed(out: &[u8], step: Step) -> Step
+    requires { ⌜ step .at ≤ length (now out) ⌝ }
+    ensures { λ r. ⌜ r ≡ record { state = step .state; at = cond (ltb much (step .at)) 0 (step .at) } ⌝ }
 {
-    if at <= MUCH {
-        return at;
+    if step.at <= MUCH {
+        return step;
     }
-    line_input::print(out, at);
-    0
+    line_input::print(out, step.at);
+    let state = step.state;
+    Step { state, at: 0 }
 }

@@ -1,4 +1,3 @@
-use mathlib.Core.Path.{_≡_, refl, sym, ap, _∙_}
 use native.Mathlib.Omega.{arith}
 use Rattle.fresh_start.proofs.Fronts.{leaves-zeros}
 use borrow.Author.Needs.{needs}
@@ -34,11 +33,12 @@ same-length-3 c = search needs
 
 returns : tie.Need-returns
 returns c =
-    let a = c .before .before .before .before .before .before .before .before .before .before .before .before .before .before .before .before .before .before .args in (
-      leaves-zeros (a .config) (c .fresh .result) (a .number) (a .upload .now) (a .response .now) (c .before .before .before .before .before .before .before .before .before .before .before .zero-fill .last .0) (c .before .before .before .before .before .before .before .zero-fill2 .last .0) (c .before .before .before .before .before .before .before .before .before .before .before .before .before .before .memory-of .result) (c .before .before .before .before .before .before .before .before .before .before .before .before .before .memory-of2 .result)
-          (c .before .before .before .before .before .before .before .before .before .before .before .before .before .before .memory-of .ensures .0) (c .before .before .before .before .before .before .before .before .before .before .before .before .before .memory-of2 .ensures .0) (c .before .before .before .before .before .before .before .before .before .before .before .zero-fill .ensures) (c .before .before .before .before .before .before .before .zero-fill2 .ensures) (c .fresh .ensures),
-      (c .before .before .before .put-config .ensures .0, omega (arith, c .before .before .before .put-config .ensures .1)),
-    )
+    let put = c .before .before .before in
+    let second = put .before .before .before .before in
+    let first = second .before .before .before .before in
+    let sized = first .before .before in
+    leaves-zeros _ _ _ _ _ _ (sized .before .memory-of .ensures .0) (sized .memory-of2 .ensures .0) (first .zero-fill .ensures) (second .zero-fill2 .ensures) (c .fresh .ensures)
+    (put .put-config .ensures .0) (omega (arith, put .put-config .ensures .1))
 
 pub begin-spec : {M : Type 1} → statement M
 begin-spec =

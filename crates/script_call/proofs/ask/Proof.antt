@@ -1,36 +1,55 @@
-use Rattle.script_call.specs.Run.{printed}
-use Rattle.pieces.proofs.Puts.{put-as}
-use Rattle.block_handler.specs.Contract.{world}
-use Rattle.block_handler.specs.Call.{Done}
-use Rattle.block_table.specs.declared.Table.{Table}
-use lib.ListN.{length-take, take}
-use lib.Seq.{length-take-le}
+use mathlib.Core.Path.{refl, sym}
 use native.Mathlib.Omega.{arith}
-use mathlib.Core.Path.{sym, ap, _∙_}
+use lib.Seq.{length-take-le}
+use Rattle.script_call.proofs.Running.{runs-done}
 use borrow.Author.Needs.{needs}
 use Rattle.script_call.proofs.ask.Statement.{statement}
 use Rattle.script_call.proofs.ask.Tie as tie
 
 slice-aggregate-intercept-request : tie.Need-slice-aggregate-intercept-request
-slice-aggregate-intercept-request c = sym (length-take-le (c .before .before .before .before .before .before .before .before .before .before .before .args .r .key) (c .before .before .before .before .before .before .before .before .before .before .before .args .key .now) (c .before .before .before .before .before .before .before .before .before .before .before .pre .0 .0))
+slice-aggregate-intercept-request c = let start = c .before .before .before .before .before .before .before .before .before .before in sym (length-take-le _ _ (omega (arith, start .pre .0 .0)))
 
-slice-aggregate-intercept-request-2 : tie.Need-slice-aggregate-intercept-request-2
-slice-aggregate-intercept-request-2 c = sym (length-take-le (c .before .before .before .before .before .before .before .before .before .before .before .before .args .r .block1 .len) (c .before .before .before .before .before .before .before .before .before .before .before .before .args .first .now) (c .before .before .before .before .before .before .before .before .before .before .before .before .pre .0 .1))
+sub-intercept-request : tie.Need-sub-intercept-request
+sub-intercept-request c = search needs
 
-slice-aggregate-intercept-request-3 : tie.Need-slice-aggregate-intercept-request-3
-slice-aggregate-intercept-request-3 c = sym (length-take-le (c .before .before .before .before .before .before .before .before .before .before .before .before .before .args .r .block2 .len) (c .before .before .before .before .before .before .before .before .before .before .before .before .before .args .second .now) (c .before .before .before .before .before .before .before .before .before .before .before .before .before .pre .0 .2))
+part-intercept-request-start : tie.Need-part-intercept-request-start
+part-intercept-request-start c = search needs
 
-slice-aggregate-intercept-request-4 : tie.Need-slice-aggregate-intercept-request-4
-slice-aggregate-intercept-request-4 c = sym (length-take-le (c .before .before .before .before .before .before .before .before .before .before .before .before .before .before .args .r .payload) (c .before .before .before .before .before .before .before .before .before .before .before .before .before .before .args .payload .now) (c .before .before .before .before .before .before .before .before .before .before .before .before .before .before .pre .0 .3))
+part-intercept-request-end : tie.Need-part-intercept-request-end
+part-intercept-request-end c = search needs
+
+sub-intercept-request-2 : tie.Need-sub-intercept-request-2
+sub-intercept-request-2 c = search needs
+
+part-intercept-request-start-2 : tie.Need-part-intercept-request-start-2
+part-intercept-request-start-2 c = search needs
+
+part-intercept-request-end-2 : tie.Need-part-intercept-request-end-2
+part-intercept-request-end-2 c = search needs
+
+sub-intercept-request-3 : tie.Need-sub-intercept-request-3
+sub-intercept-request-3 c = search needs
+
+part-intercept-request-start-3 : tie.Need-part-intercept-request-start-3
+part-intercept-request-start-3 c = search needs
+
+part-intercept-request-end-3 : tie.Need-part-intercept-request-end-3
+part-intercept-request-end-3 c = search needs
 
 intercept-request-requires : tie.Need-intercept-request-requires
 intercept-request-requires c κs = search needs
 
-slice-aggregate-print : tie.Need-slice-aggregate-print
-slice-aggregate-print c = sym (length-take-le (c .before .before .before .before .before .before .before .before .before .before .before .before .before .before .before .before .before .before .args .r .payload) (c .before .before .before .before .before .before .before .before .before .before .before .before .before .before .before .before .before .before .args .payload .now) (c .before .before .before .before .before .before .before .before .before .before .before .before .before .before .before .before .before .before .pre .0 .3))
+sub-print : tie.Need-sub-print
+sub-print c = search needs
+
+part-print-start : tie.Need-part-print-start
+part-print-start c = search needs
+
+part-print-end : tie.Need-part-print-end
+part-print-end c = search needs
 
 print-requires : tie.Need-print-requires
-print-requires c κs = ((simp length-take (omega (arith, c .before .before .before .before .before .before .before .before .before .before .before .before .before .before .before .before .before .before .before .before .pre .1 .0 .0)), omega (arith, c .before .before .before .before .before .before .before .before .before .before .before .before .before .before .before .before .before .before .before .before .pre .1 .0 .1, c .before .before .before .before .before .intercept-request .kept .1 .1 .0), c .before .before .before .before .before .before .before .before .before .before .before .before .before .before .before .before .before .before .before .before .pre .1 .0 .2), c .before .before .before .before .before .before .before .before .before .before .before .before .before .before .before .before .before .before .before .before .pre .1 .1)
+print-requires c κs = search needs
 
 same-length : tie.Need-same-length
 same-length c = search needs
@@ -39,18 +58,29 @@ same-length-2 : tie.Need-same-length-2
 same-length-2 c = search needs
 
 returns : tie.Need-returns
-returns c = let e = c .before .before .before .before .before .before .before .before .intercept-request .ensures in (record { world = ap (λ (t : Table). world t (c .before .before .before .before .before .before .before .before .intercept-request .last .1 .1 .0) (c .before .before .before .before .before .before .before .before .before .before .before .before .before .before .before .before .before .before .before .before .before .before .before .args .response .now)) (c .before .before .print .ensures .0) ∙ ap (λ (d : Done). d .world) e; text = put-as (c .before .before .print .ensures .1 .0) (ap (λ (d : Done). printed (c .before .before .before .before .before .before .before .before .before .before .before .before .before .before .before .before .before .before .before .before .before .before .before .args .n) d (take (c .before .before .before .before .before .before .before .before .before .before .before .before .before .before .before .before .before .before .before .before .before .before .before .args .r .payload) (c .before .before .before .before .before .before .before .before .before .before .before .before .before .before .before .before .before .before .before .before .before .before .before .args .payload .now))) e) }, c .before .before .print .ensures .1 .1)
+returns c =
+    let print = c .before .before in
+    let called = print .before .before .before .before .before .before in
+    runs-done _ _ refl refl (called .intercept-request .ensures) (print .print .ensures .0) (print .print .ensures .1 .0) (print .print .ensures .1 .1)
 
 pub ask-spec : {M : Type 1} → statement M
 ask-spec =
     tie.close
     (tie.spec
     slice-aggregate-intercept-request
-    slice-aggregate-intercept-request-2
-    slice-aggregate-intercept-request-3
-    slice-aggregate-intercept-request-4
+    sub-intercept-request
+    part-intercept-request-start
+    part-intercept-request-end
+    sub-intercept-request-2
+    part-intercept-request-start-2
+    part-intercept-request-end-2
+    sub-intercept-request-3
+    part-intercept-request-start-3
+    part-intercept-request-end-3
     intercept-request-requires
-    slice-aggregate-print
+    sub-print
+    part-print-start
+    part-print-end
     print-requires
     same-length
     same-length-2

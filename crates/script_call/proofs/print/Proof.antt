@@ -1,11 +1,12 @@
-use Rattle.script_shown.proofs.Showing.{shown-short}
+use mathlib.Core.Path.{refl, ap}
+use mathlib.Core.List.{List}
+use Prim.Native.Nat.{ℕ}
+use native.Mathlib.Omega.{arith}
+use lib.ListN.{length}
 use Rattle.pieces.proofs.Puts.{put-as}
 use Rattle.answer_text.specs.Answer.{answerText}
-use Prim.Native.Nat.{ℕ}
-use mathlib.Core.List.{List}
-use lib.ListN.{length}
-use native.Mathlib.Omega.{arith}
-use mathlib.Core.Path.{refl, ap}
+use Rattle.script_shown.proofs.Showing.{shown-short}
+use Rattle.script_state.specs.Sizes.{memorySize}
 use borrow.Author.Needs.{needs}
 use Rattle.script_call.proofs.print.Statement.{statement}
 use Rattle.script_call.proofs.print.Tie as tie
@@ -14,13 +15,28 @@ shown-requires : tie.Need-shown-requires
 shown-requires c κs = search needs
 
 put-answer-requires : tie.Need-put-answer-requires
-put-answer-requires c κs = omega (arith, ap length (c .before .shown .ensures), shown-short (c .before .before .before .before .before .before .args .outcome .answer) (c .before .before .before .before .before .before .args .payload .now) (c .before .before .before .before .before .before .args .upload .now) (c .before .before .before .before .before .before .args .response .now) 1048576 (c .before .before .before .before .before .before .pre .0 .0) (c .before .before .before .before .before .before .pre .0 .1) (c .before .before .before .before .before .before .pre .0 .2), c .before .before .before .before .before .before .pre .1)
+put-answer-requires c κs =
+    let start = c .before .before .before .before .before .before .before .before in
+    let args = start .args in
+    let short = shown-short (args .outcome .answer) (args .payload .now) (args .upload .now) (args .response .now) memorySize (start .pre .0 .0) (start .pre .0 .1) (start .pre .0 .2) in
+    omega (arith, ap length (c .before .shown .ensures), short, start .pre .1)
 
 same-length : tie.Need-same-length
 same-length c = search needs
 
 returns : tie.Need-returns
-returns c = (refl, (put-as (c .before .before .before .put-answer .ensures .0) (ap (λ (b : List ℕ). answerText (c .before .before .before .before .before .before .before .before .before .before .args .n) (c .before .before .before .before .before .before .before .before .before .before .args .outcome .answer) b) (c .before .before .before .before .before .shown .ensures)), omega (arith, ap length (c .before .before .before .before .before .shown .ensures), shown-short (c .before .before .before .before .before .before .before .before .before .before .args .outcome .answer) (c .before .before .before .before .before .before .before .before .before .before .args .payload .now) (c .before .before .before .before .before .before .before .before .before .before .args .upload .now) (c .before .before .before .before .before .before .before .before .before .before .args .response .now) 1048576 (c .before .before .before .before .before .before .before .before .before .before .pre .0 .0) (c .before .before .before .before .before .before .before .before .before .before .pre .0 .1) (c .before .before .before .before .before .before .before .before .before .before .pre .0 .2), c .before .before .before .put-answer .ensures .1)))
+returns c =
+    let start = c .before .before .before .before .before .before .before .before .before .before .before .before in
+    let args = start .args in
+    let short = shown-short (args .outcome .answer) (args .payload .now) (args .upload .now) (args .response .now) memorySize (start .pre .0 .0) (start .pre .0 .1) (start .pre .0 .2) in
+    let put = c .before .before .before in
+    let shown = put .before .before .shown .ensures in (
+      refl,
+      (
+        put-as (put .put-answer .ensures .0) (ap (λ (b : List ℕ). answerText (args .step .state .number) (args .outcome .answer) b) shown),
+        omega (arith, ap length shown, short, put .put-answer .ensures .1),
+      ),
+    )
 
 pub print-spec : {M : Type 1} → statement M
 print-spec = tie.close (tie.spec shown-requires put-answer-requires same-length returns)

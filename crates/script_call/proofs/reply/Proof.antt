@@ -1,33 +1,46 @@
-use Rattle.script_call.specs.Run.{printed}
-use Rattle.pieces.proofs.Puts.{put-as}
-use Rattle.block_handler.specs.Contract.{world}
-use Rattle.block_handler.specs.Call.{Done}
-use Rattle.block_table.specs.declared.Table.{Table}
-use lib.ListN.{length-take, take}
-use lib.Seq.{length-take-le}
+use mathlib.Core.Path.{refl, sym}
 use native.Mathlib.Omega.{arith}
-use mathlib.Core.Path.{sym, ap, _∙_}
+use lib.Seq.{length-take-le}
+use Rattle.script_call.proofs.Running.{runs-done}
 use borrow.Author.Needs.{needs}
 use Rattle.script_call.proofs.reply.Statement.{statement}
 use Rattle.script_call.proofs.reply.Tie as tie
 
 slice-aggregate-intercept-response : tie.Need-slice-aggregate-intercept-response
-slice-aggregate-intercept-response c = sym (length-take-le (c .before .before .before .before .before .before .before .before .before .args .r .key) (c .before .before .before .before .before .before .before .before .before .args .key .now) (c .before .before .before .before .before .before .before .before .before .pre .0 .0))
+slice-aggregate-intercept-response c = let start = c .before .before .before .before .before .before .before .before .before .before in sym (length-take-le _ _ (omega (arith, start .pre .0 .0)))
 
-slice-aggregate-intercept-response-2 : tie.Need-slice-aggregate-intercept-response-2
-slice-aggregate-intercept-response-2 c = sym (length-take-le (c .before .before .before .before .before .before .before .before .before .before .args .r .head) (c .before .before .before .before .before .before .before .before .before .before .args .first .now) (c .before .before .before .before .before .before .before .before .before .before .pre .0 .1))
+sub-intercept-response : tie.Need-sub-intercept-response
+sub-intercept-response c = search needs
 
-slice-aggregate-intercept-response-3 : tie.Need-slice-aggregate-intercept-response-3
-slice-aggregate-intercept-response-3 c = sym (length-take-le (c .before .before .before .before .before .before .before .before .before .before .before .args .r .payload) (c .before .before .before .before .before .before .before .before .before .before .before .args .payload .now) (c .before .before .before .before .before .before .before .before .before .before .before .pre .0 .2))
+part-intercept-response-start : tie.Need-part-intercept-response-start
+part-intercept-response-start c = search needs
+
+part-intercept-response-end : tie.Need-part-intercept-response-end
+part-intercept-response-end c = search needs
+
+sub-intercept-response-2 : tie.Need-sub-intercept-response-2
+sub-intercept-response-2 c = search needs
+
+part-intercept-response-start-2 : tie.Need-part-intercept-response-start-2
+part-intercept-response-start-2 c = search needs
+
+part-intercept-response-end-2 : tie.Need-part-intercept-response-end-2
+part-intercept-response-end-2 c = search needs
 
 intercept-response-requires : tie.Need-intercept-response-requires
 intercept-response-requires c κs = search needs
 
-slice-aggregate-print : tie.Need-slice-aggregate-print
-slice-aggregate-print c = sym (length-take-le (c .before .before .before .before .before .before .before .before .before .before .before .before .before .before .before .args .r .payload) (c .before .before .before .before .before .before .before .before .before .before .before .before .before .before .before .args .payload .now) (c .before .before .before .before .before .before .before .before .before .before .before .before .before .before .before .pre .0 .2))
+sub-print : tie.Need-sub-print
+sub-print c = search needs
+
+part-print-start : tie.Need-part-print-start
+part-print-start c = search needs
+
+part-print-end : tie.Need-part-print-end
+part-print-end c = search needs
 
 print-requires : tie.Need-print-requires
-print-requires c κs = ((simp length-take (omega (arith, c .before .before .before .before .before .before .before .before .before .before .before .before .before .before .before .before .before .pre .1 .0 .0)), c .before .before .before .before .before .before .before .before .before .before .before .before .before .before .before .before .before .pre .1 .0 .1, omega (arith, c .before .before .before .before .before .before .before .before .before .before .before .before .before .before .before .before .before .pre .1 .0 .2, c .before .before .before .before .before .intercept-response .kept .1 .1 .1 .0)), c .before .before .before .before .before .before .before .before .before .before .before .before .before .before .before .before .before .pre .1 .1)
+print-requires c κs = search needs
 
 same-length : tie.Need-same-length
 same-length c = search needs
@@ -36,17 +49,26 @@ same-length-2 : tie.Need-same-length-2
 same-length-2 c = search needs
 
 returns : tie.Need-returns
-returns c = let e = c .before .before .before .before .before .before .before .before .intercept-response .ensures in (record { world = ap (λ (t : Table). world t (c .before .before .before .before .before .before .before .before .before .before .before .before .before .before .before .before .before .before .before .before .args .upload .now) (c .before .before .before .before .before .before .before .before .intercept-response .last .1 .1 .1 .0)) (c .before .before .print .ensures .0) ∙ ap (λ (d : Done). d .world) e; text = put-as (c .before .before .print .ensures .1 .0) (ap (λ (d : Done). printed (c .before .before .before .before .before .before .before .before .before .before .before .before .before .before .before .before .before .before .before .before .args .n) d (take (c .before .before .before .before .before .before .before .before .before .before .before .before .before .before .before .before .before .before .before .before .args .r .payload) (c .before .before .before .before .before .before .before .before .before .before .before .before .before .before .before .before .before .before .before .before .args .payload .now))) e) }, c .before .before .print .ensures .1 .1)
+returns c =
+    let print = c .before .before in
+    let called = print .before .before .before .before .before .before in
+    runs-done _ _ refl refl (called .intercept-response .ensures) (print .print .ensures .0) (print .print .ensures .1 .0) (print .print .ensures .1 .1)
 
 pub reply-spec : {M : Type 1} → statement M
 reply-spec =
     tie.close
     (tie.spec
     slice-aggregate-intercept-response
-    slice-aggregate-intercept-response-2
-    slice-aggregate-intercept-response-3
+    sub-intercept-response
+    part-intercept-response-start
+    part-intercept-response-end
+    sub-intercept-response-2
+    part-intercept-response-start-2
+    part-intercept-response-end-2
     intercept-response-requires
-    slice-aggregate-print
+    sub-print
+    part-print-start
+    part-print-end
     print-requires
     same-length
     same-length-2

@@ -1,5 +1,4 @@
-use mathlib.Core.Path.{_≡_, refl, sym, ap, _∙_}
-use native.Mathlib.Omega.{arith}
+use mathlib.Core.Path.{ap}
 use Prim.Native.Nat.{ℕ}
 use borrow.Author.Needs.{needs}
 use Rattle.script_state.proofs.counted.Statement.{statement}
@@ -9,7 +8,9 @@ wrapping-add-u64-requires : tie.Need-wrapping-add-u64-requires
 wrapping-add-u64-requires c κs = search needs
 
 returns : tie.Need-returns
-returns c = ap (λ (n : ℕ). record { config = c .before .before .before .args .state .config; table = c .before .before .before .args .state .table; number = n }) (c .wrapping-add-u64 .ensures)
+returns c =
+    let step = c .before .before .before .before .args .step in
+    ap (λ (n : ℕ). record { state = record { config = step .state .config; table = step .state .table; number = n }; at = step .at }) (c .wrapping-add-u64 .ensures)
 
 pub counted-spec : {M : Type 1} → statement M
 counted-spec = tie.close (tie.spec wrapping-add-u64-requires returns)

@@ -1,0 +1,94 @@
+// One line, whatever it is: a call, a fresh start, or the state shown.
+use replay_control::Control;
+use script_state::Step;
+use script_state::buffers;
+ghost use mathlib.Core.Path.{_≡_};
+ghost use Prim.Native.Nat.{_≤_};
+ghost use lib.ListN.{length};
+ghost use Rattle.fresh_start.specs.Leaves.{Leaves};
+ghost use Rattle.line_input.specs.Sizes.{longest, much};
+ghost use Rattle.runner.specs.Line.{Lent, calledIn, shownIn, lineIn};
+
+// A line that is a call, or that cannot be read.
+fn run(
+    step: Step,
+    line: &[u8],
+    upload: &mut [u8],
+    response: &mut [u8],
+    scratch: &mut [u8],
+    out: &mut [u8],
+) -> Step
+    requires { ⌜ Lent (now upload) (now response) (now scratch) (now out) ⌝ }
+    requires { ⌜ (length (now line) ≤ longest) × (step .at ≤ much) ⌝ }
+    ensures { λ r. ⌜ Leaves (calledIn step (now (upload .entry)) (now (response .entry)) (now (line .entry))) step (now (upload .entry)) (now (response .entry)) (now (out .entry)) r (now (upload .exit)) (now (response .exit)) (now (out .exit)) ⌝ }
+{
+    let state = step.state;
+    let config = state.config;
+    let u = buffers::memory_of(config.upload);
+    let v = buffers::memory_of(config.response);
+    script_call::run_line(
+        step,
+        line,
+        &mut upload[0..u],
+        &mut response[0..v],
+        scratch,
+        out,
+    )
+}
+
+// The state, as it is.
+fn show<'a>(
+    step: Step,
+    upload: &'a [u8],
+    response: &'a [u8],
+    scratch: &'a [u8],
+    out: &mut [u8],
+) -> Step
+    requires { ⌜ Lent (now upload) (now response) (now scratch) (now out) ⌝ }
+    requires { ⌜ step .at ≤ much ⌝ }
+    ensures { λ r. ⌜ Leaves (shownIn step (now (upload .entry)) (now (response .entry))) step (now (upload .entry)) (now (response .entry)) (now (out .entry)) r (now (upload .entry)) (now (response .entry)) (now (out .exit)) ⌝ }
+{
+    let state = step.state;
+    let config = state.config;
+    let table = state.table;
+    let u = buffers::memory_of(config.upload);
+    let v = buffers::memory_of(config.response);
+    let at = state_text::put_state(
+        out,
+        step.at,
+        state.number,
+        table,
+        &upload[0..u],
+        &response[0..v],
+    );
+    Step { state, at }
+}
+
+// A line without its end; its number is counted already.
+pub fn run_any(
+    replay: bool,
+    step: Step,
+    line: &[u8],
+    upload: &mut [u8],
+    response: &mut [u8],
+    scratch: &mut [u8],
+    out: &mut [u8],
+) -> Step
+    requires { ⌜ Lent (now upload) (now response) (now scratch) (now out) ⌝ }
+    requires { ⌜ step .at ≤ much ⌝ }
+    ensures { λ r. ⌜ Leaves (lineIn replay step (now (upload .entry)) (now (response .entry)) (now (line .entry))) step (now (upload .entry)) (now (response .entry)) (now (out .entry)) r (now (upload .exit)) (now (response .exit)) (now (out .exit)) ⌝ }
+{
+    if line_input::LONGEST < line.len() {
+        let state = step.state;
+        let at = answer_text::put_unreadable(out, step.at, state.number);
+        return Step { state, at };
+    }
+    if !replay {
+        return run(step, line, upload, response, scratch, out);
+    }
+    match replay_control::control_of(line) {
+        Control::Fresh(config) => fresh_start::begin(config, step, upload, response, out),
+        Control::Show => show(step, upload, response, scratch, out),
+        Control::Other => run(step, line, upload, response, scratch, out),
+    }
+}
