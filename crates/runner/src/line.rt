@@ -20,7 +20,8 @@ fn run(
 ) -> Step
     requires { ⌜ Lent (now upload) (now response) (now scratch) (now out) ⌝ }
     requires { ⌜ (length (now line) ≤ longest) × (step .at ≤ much) ⌝ }
-    ensures { λ r. ⌜ Leaves (calledIn step (now (upload .entry)) (now (response .entry)) (now (line .entry))) step (now (upload .entry)) (now (response .entry)) (now (out .entry)) r (now (upload .exit)) (now (response .exit)) (now (out .exit)) ⌝ }
+    ensures { λ r. ⌜ Leaves (calledIn step (now (upload .entry)) (now (response .entry)) (now (line .entry))) step (now (upload .entry)) (now (response .entry))
+        (now (out .entry)) r (now (upload .exit)) (now (response .exit)) (now (out .exit)) ⌝ }
 {
     let state = step.state;
     let config = state.config;
@@ -46,7 +47,8 @@ fn show<'a>(
 ) -> Step
     requires { ⌜ Lent (now upload) (now response) (now scratch) (now out) ⌝ }
     requires { ⌜ step .at ≤ much ⌝ }
-    ensures { λ r. ⌜ Leaves (shownIn step (now (upload .entry)) (now (response .entry))) step (now (upload .entry)) (now (response .entry)) (now (out .entry)) r (now (upload .entry)) (now (response .entry)) (now (out .exit)) ⌝ }
+    ensures { λ r. ⌜ Leaves (shownIn step (now (upload .entry)) (now (response .entry))) step (now (upload .entry)) (now (response .entry)) (now (out .entry)) r
+        (now (upload .entry)) (now (response .entry)) (now (out .exit)) ⌝ }
 {
     let state = step.state;
     let config = state.config;
@@ -76,7 +78,8 @@ pub fn run_any(
 ) -> Step
     requires { ⌜ Lent (now upload) (now response) (now scratch) (now out) ⌝ }
     requires { ⌜ step .at ≤ much ⌝ }
-    ensures { λ r. ⌜ Leaves (lineIn replay step (now (upload .entry)) (now (response .entry)) (now (line .entry))) step (now (upload .entry)) (now (response .entry)) (now (out .entry)) r (now (upload .exit)) (now (response .exit)) (now (out .exit)) ⌝ }
+    ensures { λ r. ⌜ Leaves (lineIn replay step (now (upload .entry)) (now (response .entry)) (now (line .entry))) step (now (upload .entry)) (now (response .entry))
+        (now (out .entry)) r (now (upload .exit)) (now (response .exit)) (now (out .exit)) ⌝ }
 {
     if line_input::LONGEST < line.len() {
         let state = step.state;

@@ -25,8 +25,11 @@ pub fn run_lines(
 ) -> Rest
     requires { ⌜ Lent (now upload) (now response) (now scratch) (now out) ⌝ }
     requires { ⌜ step .at ≤ much ⌝ }
-    ensures { λ r. ⌜ standing (r .step .state) (now (upload .exit)) (now (response .exit)) ≡ afterLines replay (standing (step .state) (now (upload .entry)) (now (response .entry))) (cutAt 10 (now (text .entry))) ⌝ }
-    ensures { λ r. ⌜ take (r .step .at) (now (out .exit)) ≡ waitsAfterLines replay (standing (step .state) (now (upload .entry)) (now (response .entry))) (take (step .at) (now (out .entry))) (cutAt 10 (now (text .entry))) ⌝ }
+    ensures { λ r. ⌜ standing (r .step .state) (now (upload .exit)) (now (response .exit))
+        ≡ afterLines replay (standing (step .state) (now (upload .entry)) (now (response .entry))) (cutAt 10 (now (text .entry))) ⌝ }
+    ensures { λ r. ⌜ take (r .step .at) (now (out .exit))
+        ≡ waitsAfterLines replay (standing (step .state) (now (upload .entry)) (now (response .entry))) (take (step .at) (now (out .entry)))
+        (cutAt 10 (now (text .entry))) ⌝ }
     ensures { λ r. ⌜ (r .from ≤ length (now (text .entry))) × (drop (r .from) (now (text .entry)) ≡ unended (now (text .entry))) ⌝ }
     ensures { λ r. ⌜ r .step .at ≤ much ⌝ }
 {

@@ -10,7 +10,7 @@ use Rattle.block_handler.specs.Call.{World, Done, done}
 use Rattle.block_handler.specs.Contract.{world}
 use Rattle.answer_text.specs.Answer.{answerText}
 use Rattle.script.specs.Line.{Said}
-use Rattle.script_shown.specs.Shown.{shownOf}
+use Rattle.answer_text.specs.Shown.{shownOf}
 use Rattle.script_state.specs.Sizes.{lineRoom}
 use Rattle.script_state.specs.declared.State.{State}
 use Rattle.script_state.specs.declared.Step.{Step}

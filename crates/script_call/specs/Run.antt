@@ -1,15 +1,18 @@
 -- What a line of a script does: the call that it says, on the table and both memories, and the line that is printed.
 use Prim.Native.Nat.{ℕ, _+_, _≤_}
+use mathlib.Core.Bool.{Bool}
 use mathlib.Core.Path.{_≡_}
 use mathlib.Core.List.{List}
 use Rattle.config.specs.declared.Config.{Config}
+use Rattle.block_state.specs.declared.RequestNumbers.{RequestNumbers}
+use Rattle.block_state.specs.declared.ResponseNumbers.{ResponseNumbers}
 use Rattle.block_table.specs.declared.Table.{Table}
 use Rattle.block_handler.specs.Call.{World, Done, call}
 use Rattle.block_handler.specs.Contract.{requestCall, responseCall}
 use Rattle.script.specs.Line.{Said, request, response, unreadable}
 use Rattle.answer_text.specs.Answer.{answerText, unreadableText}
 use Rattle.pieces.specs.Memory.{Put}
-use Rattle.script_shown.specs.Shown.{shownOf}
+use Rattle.answer_text.specs.Shown.{shownOf}
 use Rattle.script_state.specs.Sizes.{lineRoom}
 use Rattle.script_state.specs.declared.State.{State}
 use Rattle.script_state.specs.declared.Step.{Step}
@@ -18,15 +21,22 @@ use Rattle.script_state.specs.declared.Step.{Step}
 abbrev pub printed : ℕ → Done → List ℕ → List ℕ
 printed n d payload = answerText n (d .answer) (shownOf (d .answer) payload (d .world .upload) (d .world .response))
 
+-- The numbers of a call, as a line says them.
+abbrev asked : ℕ → ℕ → Bool → Bool → RequestNumbers
+asked time bare given1 given2 = record { time = time; bare = bare; block1 = given1; block2 = given2 }
+
+abbrev replied : ℕ → ℕ → Bool → ResponseNumbers
+replied time bare own = record { time = time; bare = bare; own = own }
+
 -- A line that cannot be read changes nothing.
 abbrev pub worldAfter : Config → World → Said → World
-worldAfter c w (request t k b g1 o1 g2 o2 p) = call c w (requestCall t k b g1 o1 g2 o2 p) .world
-worldAfter c w (response t k b own h p) = call c w (responseCall t k b own h p) .world
+worldAfter c w (request t k b g1 o1 g2 o2 p) = call c w (requestCall (asked t b g1 g2) k o1 o2 p) .world
+worldAfter c w (response t k b own h p) = call c w (responseCall (replied t b own) k h p) .world
 worldAfter c w unreadable = w
 
 abbrev pub textAfter : Config → World → ℕ → Said → List ℕ
-textAfter c w n (request t k b g1 o1 g2 o2 p) = printed n (call c w (requestCall t k b g1 o1 g2 o2 p)) p
-textAfter c w n (response t k b own h p) = printed n (call c w (responseCall t k b own h p)) p
+textAfter c w n (request t k b g1 o1 g2 o2 p) = printed n (call c w (requestCall (asked t b g1 g2) k o1 o2 p)) p
+textAfter c w n (response t k b own h p) = printed n (call c w (responseCall (replied t b own) k h p)) p
 textAfter c w n unreadable = unreadableText n
 
 -- The state with another table.

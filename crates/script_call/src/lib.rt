@@ -1,5 +1,7 @@
 // One line that is a call: read, called, printed.
 use block_handler::Outcome;
+use block_state::RequestNumbers;
+use block_state::ResponseNumbers;
 use script::Line;
 use script::Request;
 use script::Response;
@@ -13,7 +15,7 @@ ghost use Rattle.block_handler.specs.Contract.{world};
 ghost use Rattle.pieces.specs.Memory.{Put};
 ghost use Rattle.script.specs.Line.{InBuffer, saidBy, lineOf};
 ghost use Rattle.script_call.specs.Run.{Runs, withTable};
-ghost use Rattle.script_shown.specs.Shown.{shownOf};
+ghost use Rattle.answer_text.specs.Shown.{shownOf};
 ghost use Rattle.script_state.specs.Sizes.{memorySize, lineRoom};
 
 // An answer, with what it shows of the message's payload and of the memories as the call left them.
@@ -28,14 +30,16 @@ fn print<'a>(
     requires { ⌜ (length (now payload) ≤ memorySize) × (length (now upload) ≤ memorySize) × (length (now response) ≤ memorySize) ⌝ }
     requires { ⌜ step .at + lineRoom ≤ length (now out) ⌝ }
     ensures { λ z. ⌜ z .state ≡ withTable (step .state) (outcome .table) ⌝ }
-    ensures { λ z. ⌜ Put (now (out .entry)) (step .at) (answerText (step .state .number) (outcome .answer) (shownOf (outcome .answer) (now (payload .entry)) (now (upload .entry)) (now (response .entry)))) (now (out .exit)) (z .at) ⌝ }
+    ensures { λ z. ⌜ Put (now (out .entry)) (step .at)
+        (answerText (step .state .number) (outcome .answer) (shownOf (outcome .answer) (now (payload .entry)) (now (upload .entry)) (now (response .entry))))
+        (now (out .exit)) (z .at) ⌝ }
     ensures { λ z. ⌜ z .at ≤ step .at + lineRoom ⌝ }
 {
     let state = step.state;
     let config = state.config;
     let number = state.number;
     let answer = outcome.answer;
-    let bytes = script_shown::shown(answer, payload, upload, response);
+    let bytes = answer_text::shown(answer, payload, upload, response);
     let at = answer_text::put_answer(out, step.at, number, answer, bytes);
     let table = outcome.table;
     Step {
@@ -59,7 +63,8 @@ fn ask<'a>(
 ) -> Step
     requires { ⌜ InBuffer (Line.Request request) (now scratch) × (length (now scratch) ≤ memorySize) ⌝ }
     requires { ⌜ (length (now upload) ≤ memorySize) × (length (now response) ≤ memorySize) × (step .at + lineRoom ≤ length (now out)) ⌝ }
-    ensures { λ z. ⌜ Runs step (world (step .state .table) (now (upload .entry)) (now (response .entry))) (saidBy (Line.Request request) (now (scratch .entry))) (now (out .entry)) z (world (z .state .table) (now (upload .exit)) (now (response .entry))) (now (out .exit)) ⌝ }
+    ensures { λ z. ⌜ Runs step (world (step .state .table) (now (upload .entry)) (now (response .entry))) (saidBy (Line.Request request) (now (scratch .entry)))
+        (now (out .entry)) z (world (z .state .table) (now (upload .exit)) (now (response .entry))) (now (out .exit)) ⌝ }
 {
     let state = step.state;
     let config = state.config;
@@ -69,17 +74,20 @@ fn ask<'a>(
     let p = call.payload;
     let o1 = request.block1;
     let o2 = request.block2;
+    let numbers = RequestNumbers {
+        time: call.time,
+        bare: call.bare,
+        block1: request.given1,
+        block2: request.given2,
+    };
     let outcome = block_handler::intercept_request(
         config,
         table,
         upload,
         response,
-        call.time,
+        numbers,
         &scratch[..k],
-        call.bare,
-        request.given1,
         &scratch[p..o1],
-        request.given2,
         &scratch[o1..o2],
         &scratch[k..p],
     );
@@ -97,7 +105,8 @@ fn reply<'a>(
 ) -> Step
     requires { ⌜ InBuffer (Line.Response replied) (now scratch) × (length (now scratch) ≤ memorySize) ⌝ }
     requires { ⌜ (length (now upload) ≤ memorySize) × (length (now response) ≤ memorySize) × (step .at + lineRoom ≤ length (now out)) ⌝ }
-    ensures { λ z. ⌜ Runs step (world (step .state .table) (now (upload .entry)) (now (response .entry))) (saidBy (Line.Response replied) (now (scratch .entry))) (now (out .entry)) z (world (z .state .table) (now (upload .entry)) (now (response .exit))) (now (out .exit)) ⌝ }
+    ensures { λ z. ⌜ Runs step (world (step .state .table) (now (upload .entry)) (now (response .entry))) (saidBy (Line.Response replied) (now (scratch .entry)))
+        (now (out .entry)) z (world (z .state .table) (now (upload .entry)) (now (response .exit))) (now (out .exit)) ⌝ }
 {
     let state = step.state;
     let config = state.config;
@@ -106,15 +115,18 @@ fn reply<'a>(
     let k = call.key;
     let p = call.payload;
     let h = replied.head;
+    let numbers = ResponseNumbers {
+        time: call.time,
+        bare: call.bare,
+        own: replied.own,
+    };
     let outcome = block_handler::intercept_response(
         config,
         table,
         upload,
         response,
-        call.time,
+        numbers,
         &scratch[..k],
-        call.bare,
-        replied.own,
         &scratch[p..h],
         &scratch[k..p],
     );
@@ -132,7 +144,8 @@ pub fn run_line(
 ) -> Step
     requires { ⌜ (length (now line) ≤ 2 * length (now scratch)) × (length (now scratch) ≤ memorySize) ⌝ }
     requires { ⌜ (length (now upload) ≤ memorySize) × (length (now response) ≤ memorySize) × (step .at + lineRoom ≤ length (now out)) ⌝ }
-    ensures { λ z. ⌜ Runs step (world (step .state .table) (now (upload .entry)) (now (response .entry))) (lineOf (now (line .entry))) (now (out .entry)) z (world (z .state .table) (now (upload .exit)) (now (response .exit))) (now (out .exit)) ⌝ }
+    ensures { λ z. ⌜ Runs step (world (step .state .table) (now (upload .entry)) (now (response .entry))) (lineOf (now (line .entry))) (now (out .entry)) z
+        (world (z .state .table) (now (upload .exit)) (now (response .exit))) (now (out .exit)) ⌝ }
 {
     match script::read_line(line, scratch) {
         Line::Request(r) => ask(step, r, upload, response, scratch, out),
