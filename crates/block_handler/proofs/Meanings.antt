@@ -1,12 +1,11 @@
 -- A call by its verdict, and a call at its place as the code makes it. Assumes nothing.
-use Prim.Native.Nat.{ℕ, _+_, _-_, _*_, _≤_, _<_}
+use Prim.Native.Nat.{ℕ, _+_, _-_, _*_, _≤_}
 use mathlib.Core.Path.{_≡_, refl, sym, ap, _∙_}
 use mathlib.Core.Bool.{Bool, true, false, _&&_}
 use mathlib.Core.List.{List, _++_}
 use native.Mathlib.Omega.{arith}
 use lib.ListN.{length, take, drop}
 use lib.Dec.{leb, ltb}
-use borrow.Author.Tests.{ltb-true}
 use Rattle.pieces.specs.Memory.{part, pieceOf, putPiece}
 use Rattle.pieces.proofs.Memory.{patch-lent, length-piece}
 use Rattle.pieces.proofs.Tests.{by-cases}
@@ -27,14 +26,12 @@ use Rattle.keys.specs.declared.Key.{Key}
 use Rattle.keys.specs.Keys.{Name, stored}
 use Rattle.entries.specs.declared.Entry.{Entry}
 use Rattle.block_table.specs.declared.Table.{Table}
-use Rattle.block_table.specs.Table.{sweep, tableWith}
+use Rattle.block_table.specs.Table.{sweep}
 use Rattle.block_table.proofs.Row.{at-sweep}
-use Rattle.block_table.proofs.Changed.{with-same, with-own}
-use Rattle.places.specs.declared.Place.{Place as Spot}
-use Rattle.places.specs.declared.Place.the-variants.{At, None, OffLimits}
+use Rattle.block_table.proofs.Changed.{with-same}
+use Rattle.places.specs.declared.Place.the-variants.{At}
 use Rattle.places.specs.declared.Sight.{Sight}
 use Rattle.places.specs.Places.{place, opened}
-use Rattle.places.specs.Sight.{placeIn, index, indexOf, sightAt, Sees}
 use Rattle.judge.specs.declared.Lengths.{Lengths}
 use Rattle.judge.specs.declared.Verdict.{Verdict}
 use Rattle.judge.specs.declared.Verdict.the-variants as verdict
@@ -88,25 +85,6 @@ response-ok r = refl
 pub refusal : (w : World) (t : Table) (n : ℕ) (a : Answer) → t ≡ w .table → a ≡ Refused n
     → done (world t (w .upload) (w .response)) a ≡ done w (Refused n)
 refusal w t n a e f = λ k. done (world (e k) (w .upload) (w .response)) (f k)
-
--- ---- a change of the table
-
--- an entry that is put where it was seen
-pub stays : (c : Config) (time : ℕ) (key : Name) (t : Table) (s : Sight) → Sees c time key t s → tableWith (s .clock) (t .entries) (s .at) (s .entry) ≡ t
-unfolding sightAt
-stays c time key t s h = (λ k. tableWith (h .0 k .clock) (t .entries) (h .0 k .at) (h .0 k .entry)) ∙ with-own t (indexOf (placeIn c time key t))
-
-pub seen-below : (c : Config) (time : ℕ) (key : Name) (t : Table) (s : Sight) → Sees c time key t s → s .at < 16
-unfolding sightAt
-seen-below c time key t s h = rw (ap (λ (z : Sight). z .at) (h .0)) (below (placeIn c time key t))
-  where
-    first : (i : ℕ) → index i < 16
-    first i = by-cases (ltb i 16) (λ y. rw y (ltb-true i 16 y)) (λ n. rw n (omega arith))
-
-    below : (p : Spot) → indexOf p < 16
-    below (At i) = first i
-    below None = omega arith
-    below OffLimits = omega arith
 
 -- ---- a call at its place i, seen so
 

@@ -1,9 +1,9 @@
 -- Laws of keys: `same` tells equal from unequal, a stored key reads back as itself and within the limits, no key is zeros, and a named key is stored. Assumes
 -- nothing.
 use Prim.Native.Nat.{ℕ, _-_, _≤_}
-use mathlib.Core.Bool.{true, false≢true, _&&_}
+use mathlib.Core.Bool.{true, false≢true}
 use mathlib.Core.Path.{_≡_, refl, ap, ap₂, _∙_}
-use mathlib.Core.List.{List, [], _∷_}
+use mathlib.Core.List.{[], _∷_}
 use lib.ListN.{length, replicate}
 use lib.Seq.{take-append-seam}
 use lib.Dec.{leb, eqb}

@@ -13,7 +13,7 @@ use Rattle.block_table.proofs.Changed.{with-own}
 use Rattle.places.specs.declared.Place.{Place}
 use Rattle.places.specs.declared.Place.the-variants.{At, None, OffLimits}
 use Rattle.places.specs.declared.Sight.{Sight}
-use Rattle.places.specs.Sight.{placeIn, index, indexOf, sightAt, Sees}
+use Rattle.places.specs.Sight.{placeIn, indexOf, sightAt, Sees}
 
 below : (p : Place) → indexOf p < 16
 below (At i) = by-cases (ltb i 16) (λ y. rw y (ltb-true i 16 y)) (λ n. rw n (omega arith))

@@ -1,6 +1,6 @@
-use mathlib.Core.Path.{sym, _∙_, ap}
+use mathlib.Core.Path.{sym, _∙_}
 use lib.Seq.{length-take-le}
-use Rattle.keys.specs.Keys.{same, keyOf}
+use Rattle.keys.specs.Keys.{keyOf}
 use borrow.Author.Needs.{needs}
 use Rattle.keys.proofs.same_key.Statement.{statement}
 use Rattle.keys.proofs.same_key.Tie as tie

@@ -1,6 +1,5 @@
 use mathlib.Core.Path.{refl}
 use Rattle.keys.specs.Keys.{storedOk}
-use borrow.Author.Needs.{needs}
 use Rattle.keys.proofs.stored_ok.Statement.{statement}
 use Rattle.keys.proofs.stored_ok.Tie as tie
 

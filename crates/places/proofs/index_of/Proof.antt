@@ -1,6 +1,4 @@
-use mathlib.Core.Path.{_∙_, ap}
-use Rattle.places.specs.declared.Place.{Place}
-use Rattle.places.specs.Sight.{indexOf}
+use mathlib.Core.Path.{_∙_}
 use borrow.Author.Needs.{needs}
 use Rattle.places.proofs.index_of.Statement.{statement}
 use Rattle.places.proofs.index_of.Tie as tie

@@ -3,7 +3,8 @@ use lib.ListN.{length}
 use Rattle.keys.proofs.Keys.{named-key}
 use Rattle.judge.proofs.Judged.{at-place, verdict-seen}
 use Rattle.block_handler.specs.Contract.{requestCall}
-use Rattle.block_handler.proofs.Meanings.{call-by, request-ok, refusal, seen-below, asked-is}
+use Rattle.block_handler.proofs.Meanings.{call-by, request-ok, refusal, asked-is}
+use Rattle.places.proofs.Sighted.{seen-below}
 use borrow.Author.Needs.{needs}
 use Rattle.block_handler.proofs.calls.request_change.Statement.{statement}
 use Rattle.block_handler.proofs.calls.request_change.Tie as tie
