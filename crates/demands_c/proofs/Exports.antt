@@ -4,10 +4,10 @@ use mathlib.Core.Path.{_≡_, refl, sym, ap, ap₂, _∙_}
 use mathlib.Core.List.{List, [], _∷_, map}
 use Rattle.pieces.proofs.Tests.{by-cases}
 use Rattle.config.specs.declared.Config.{Config}
-use Rattle.block_state.specs.Answers.{said}
-use Rattle.keys.specs.Keys.{same}
+use Rattle.block_state.specs.Answers.{kindNumber, said}
+use Rattle.keys.specs.Keys.{Name}
 use Rattle.block_handler.specs.Call.{World, Call, call}
-use Rattle.replies.specs.Reply.{replyOf, kindNumber}
+use Rattle.replies.specs.Reply.{replyOf}
 use Rattle.replies.proofs.Shown.{body-bytes}
 use Rattle.handler_c.specs.Contract.{Replies}
 use Rattle.demands.specs.Demand3.{Seen, seen, run, after, payloadOf, callOn, joined, HandsOn}
@@ -34,7 +34,7 @@ runs-are-calls-in-C c w (q ∷ calls) (d ∷ results) r =
       rest .1 ∙ ap (λ (w : World). after call c w calls) v,
     )
 
-seen-on-in-C : (c : Config) (k : List ℕ) (calls : List Call) (w : World) → seenOnInC k calls (map inC (run call c w calls)) ≡ map inC (runOn k call c w calls)
+seen-on-in-C : (c : Config) (k : Name) (calls : List Call) (w : World) → seenOnInC k calls (map inC (run call c w calls)) ≡ map inC (runOn k call c w calls)
 seen-on-in-C c k [] w = refl
 seen-on-in-C c k (q ∷ calls) w = let rest = seen-on-in-C c k calls (call c w q .world) in by-cases (asks k q) (λ y. rw (y, rest)) (λ n. rw (n, rest))
 
