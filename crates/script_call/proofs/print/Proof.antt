@@ -11,18 +11,12 @@ use borrow.Author.Needs.{needs}
 use Rattle.script_call.proofs.print.Statement.{statement}
 use Rattle.script_call.proofs.print.Tie as tie
 
-shown-requires : tie.Need-shown-requires
-shown-requires c κs = search needs
-
 put-answer-requires : tie.Need-put-answer-requires
 put-answer-requires c κs =
     let start = c .before .before .before .before .before .before .before .before in
     let args = start .args in
     let short = shown-short (args .outcome .answer) (args .payload .now) (args .upload .now) (args .response .now) memorySize (start .pre .0 .0) (start .pre .0 .1) (start .pre .0 .2) in
     omega (arith, ap length (c .before .shown .ensures), short, start .pre .1)
-
-same-length : tie.Need-same-length
-same-length c = search needs
 
 returns : tie.Need-returns
 returns c =
@@ -39,4 +33,4 @@ returns c =
     )
 
 pub print-spec : {M : Type 1} → statement M
-print-spec = tie.close (tie.spec shown-requires put-answer-requires same-length returns)
+print-spec = tie.close (tie.spec (λ c κs. search needs) put-answer-requires (λ c. search needs) returns)
