@@ -26,6 +26,9 @@ freshWorld c = world freshTable (replicate (memoryOf (c .upload)) 0) (replicate 
 abbrev pub fresh : Config → ℕ → After
 fresh c n = record { config = c; world = freshWorld c; text = configText n }
 
+abbrev pub freshIn : Config → Step → List ℕ → List ℕ → After
+freshIn c s up away = fresh c (s .state .number)
+
 -- ---- what the code lends: of each memory, as much as the configuration has
 
 abbrev pub worldIn : Config → Table → List ℕ → List ℕ → World
@@ -40,3 +43,6 @@ pub record Leaves (a : After) (s : Step) (up away m : List ℕ) (z : Step) (up�
   pub response : drop (memoryOf (z .state .config .response)) away′ ≡ drop (memoryOf (z .state .config .response)) away
   pub text : Put m (s .at) (a .text) m′ (z .at)
   pub room : z .at ≤ s .at + lineRoom
+
+abbrev pub Left : (Step → List ℕ → List ℕ → After) → Step → List ℕ → List ℕ → List ℕ → Step → List ℕ → List ℕ → List ℕ → Type 0
+Left f s up away m z up′ away′ m′ = Leaves (f s up away) s up away m z up′ away′ m′

@@ -6,7 +6,7 @@ use script_state::buffers;
 ghost use Prim.Native.Nat.{_+_, _≤_};
 ghost use lib.ListN.{length};
 ghost use Rattle.script_state.specs.Sizes.{memorySize, lineRoom};
-ghost use Rattle.fresh_start.specs.Leaves.{fresh, Leaves};
+ghost use Rattle.fresh_start.specs.Leaves.{freshIn, Left};
 
 // A fresh start: an empty table, and memories of zeros.
 pub fn begin(
@@ -17,7 +17,7 @@ pub fn begin(
     out: &mut [u8],
 ) -> Step
     requires { ⌜ (memorySize ≤ length (now upload)) × (memorySize ≤ length (now response)) × (step .at + lineRoom ≤ length (now out)) ⌝ }
-    ensures { λ r. ⌜ Leaves (fresh config (step .state .number)) step (now (upload .entry)) (now (response .entry)) (now (out .entry)) r (now (upload .exit)) (now (response .exit)) (now (out .exit)) ⌝ }
+    ensures { λ r. ⌜ Left (freshIn config) step (now (upload .entry)) (now (response .entry)) (now (out .entry)) r (now (upload .exit)) (now (response .exit)) (now (out .exit)) ⌝ }
 {
     let state = step.state;
     let number = state.number;

@@ -58,11 +58,11 @@ module _ (s : Step) (up away m : List ℕ) {m′ : List ℕ} where
     -- A call is made on the parts.
     pub leaves-called : (l : List ℕ) (z : Step) (p q : List ℕ) → memorySize ≤ length up → memorySize ≤ length away → length p ≡ length (take u up)
         → length q ≡ length (take v away) → Runs s (world (s .state .table) (take u up) (take v away)) (lineOf l) m z (world (z .state .table) p q) m′
-        → Leaves (calledIn s up away l) s up away m z (fronted p up u) (fronted q away v) m′
+        → Leaves (calledIn l s up away) s up away m z (fronted p up u) (fronted q away v) m′
     leaves-called l z p q hu hv lp lq r =
         let w = world-by (s .state .config) (s .state .table) up away eu ev in
         by-state (r .state)
-        (leaves-fronts (s .state .config) (z .state .table) s up away m eu ev (calledIn s up away l) p q (lp ∙ length-take-le u up (omega (arith, eu)))
+        (leaves-fronts (s .state .config) (z .state .table) s up away m eu ev (calledIn l s up away) p q (lp ∙ length-take-le u up (omega (arith, eu)))
         (lq ∙ length-take-le v away (omega (arith, ev))) refl (r .world ∙ ap (λ (x : World). worldAfter (s .state .config) x (lineOf l)) w)
         (put-as (r .text) (ap (λ (x : World). textAfter (s .state .config) x (s .state .number) (lineOf l)) w)) (r .room))
 

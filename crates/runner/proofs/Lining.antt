@@ -70,8 +70,10 @@ module _ (replay : Bool) (text : List ℕ) (s₀ s : Standing) (waiting₀ waiti
   unfolding afterLines waitsAfterLines lastOf
   going-done h =
       let only : cutAt 10 (drop from text) ≡ between text from end ∷ [] = last-field 10 text from end (g .cut) h in
-      let all : between text from end ≡ drop from text = take-all (end - from) (drop from text) (rw (length-drop from text) (omega arith)) in
-      (ap (afterLines replay s) (sym only) ∙ g .runs, (ap (waitsAfterLines replay s waiting) (sym only) ∙ g .waits, (omega (arith, g .cut .after, g .cut .within), sym all ∙ ap lastOf (sym only) ∙ g .last)))
+      let all : between text from end ≡ drop from text = take-all (end - from) (drop from text) (rw (length-drop from text) (omega arith)) in (
+        ap (afterLines replay s) (sym only) ∙ g .runs,
+        (ap (waitsAfterLines replay s waiting) (sym only) ∙ g .waits, (omega (arith, g .cut .after, g .cut .within), sym all ∙ ap lastOf (sym only) ∙ g .last)),
+      )
 
 -- ---- what waits
 

@@ -39,14 +39,14 @@ lineRun replay c w n l =
 
 -- ---- where the code stands, with what is lent to it
 
-abbrev pub calledIn : Step → List ℕ → List ℕ → List ℕ → After
-calledIn s up away l = called (s .state .config) (worldIn (s .state .config) (s .state .table) up away) (s .state .number) l
+abbrev pub calledIn : List ℕ → Step → List ℕ → List ℕ → After
+calledIn l s up away = called (s .state .config) (worldIn (s .state .config) (s .state .table) up away) (s .state .number) l
 
 abbrev pub shownIn : Step → List ℕ → List ℕ → After
 shownIn s up away = stateShown (s .state .config) (worldIn (s .state .config) (s .state .table) up away) (s .state .number)
 
-abbrev pub lineIn : Bool → Step → List ℕ → List ℕ → List ℕ → After
-lineIn replay s up away l = lineRun replay (s .state .config) (worldIn (s .state .config) (s .state .table) up away) (s .state .number) l
+abbrev pub lineIn : Bool → List ℕ → Step → List ℕ → List ℕ → After
+lineIn replay l s up away = lineRun replay (s .state .config) (worldIn (s .state .config) (s .state .table) up away) (s .state .number) l
 
 -- The sizes of what is lent: two memories, a buffer for a line's fields, and the output.
 pub record Lent (up away scratch out : List ℕ) : Type 0 where

@@ -76,3 +76,9 @@ waitsAfterScript s text =
 
 abbrev pub standing : State → List ℕ → List ℕ → Standing
 standing s up away = record { config = s .config; world = worldIn (s .config) (s .table) up away; number = s .number }
+
+abbrev pub linesIn : Bool → State → List ℕ → List ℕ → List ℕ → Standing
+linesIn replay s up away text = afterLines replay (standing s up away) (cutAt 10 text)
+
+abbrev pub waitsIn : Bool → State → List ℕ → List ℕ → List ℕ → List ℕ → List ℕ
+waitsIn replay s up away waiting text = waitsAfterLines replay (standing s up away) waiting (cutAt 10 text)

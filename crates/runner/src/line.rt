@@ -5,7 +5,7 @@ use script_state::buffers;
 ghost use mathlib.Core.Path.{_≡_};
 ghost use Prim.Native.Nat.{_≤_};
 ghost use lib.ListN.{length};
-ghost use Rattle.fresh_start.specs.Leaves.{Leaves};
+ghost use Rattle.fresh_start.specs.Leaves.{Left};
 ghost use Rattle.line_input.specs.Sizes.{longest, much};
 ghost use Rattle.runner.specs.Line.{Lent, calledIn, shownIn, lineIn};
 
@@ -20,8 +20,7 @@ fn run(
 ) -> Step
     requires { ⌜ Lent (now upload) (now response) (now scratch) (now out) ⌝ }
     requires { ⌜ (length (now line) ≤ longest) × (step .at ≤ much) ⌝ }
-    ensures { λ r. ⌜ Leaves (calledIn step (now (upload .entry)) (now (response .entry)) (now (line .entry))) step (now (upload .entry)) (now (response .entry))
-        (now (out .entry)) r (now (upload .exit)) (now (response .exit)) (now (out .exit)) ⌝ }
+    ensures { λ r. ⌜ Left (calledIn (now (line .entry))) step (now (upload .entry)) (now (response .entry)) (now (out .entry)) r (now (upload .exit)) (now (response .exit)) (now (out .exit)) ⌝ }
 {
     let state = step.state;
     let config = state.config;
@@ -47,8 +46,7 @@ fn show<'a>(
 ) -> Step
     requires { ⌜ Lent (now upload) (now response) (now scratch) (now out) ⌝ }
     requires { ⌜ step .at ≤ much ⌝ }
-    ensures { λ r. ⌜ Leaves (shownIn step (now (upload .entry)) (now (response .entry))) step (now (upload .entry)) (now (response .entry)) (now (out .entry)) r
-        (now (upload .entry)) (now (response .entry)) (now (out .exit)) ⌝ }
+    ensures { λ r. ⌜ Left shownIn step (now (upload .entry)) (now (response .entry)) (now (out .entry)) r (now (upload .entry)) (now (response .entry)) (now (out .exit)) ⌝ }
 {
     let state = step.state;
     let config = state.config;
@@ -78,8 +76,7 @@ pub fn run_any(
 ) -> Step
     requires { ⌜ Lent (now upload) (now response) (now scratch) (now out) ⌝ }
     requires { ⌜ step .at ≤ much ⌝ }
-    ensures { λ r. ⌜ Leaves (lineIn replay step (now (upload .entry)) (now (response .entry)) (now (line .entry))) step (now (upload .entry)) (now (response .entry))
-        (now (out .entry)) r (now (upload .exit)) (now (response .exit)) (now (out .exit)) ⌝ }
+    ensures { λ r. ⌜ Left (lineIn replay (now (line .entry))) step (now (upload .entry)) (now (response .entry)) (now (out .entry)) r (now (upload .exit)) (now (response .exit)) (now (out .exit)) ⌝ }
 {
     if line_input::LONGEST < line.len() {
         let state = step.state;

@@ -7,11 +7,10 @@ ghost use Prim.Native.Nat.{_≤_};
 ghost use lib.ListN.{length, take, drop};
 ghost use Rattle.line_input.specs.Sizes.{much};
 ghost use Rattle.pieces.specs.Memory.{Put};
-ghost use Rattle.script.specs.Line.{cutAt};
 ghost use Rattle.script_state.specs.Sizes.{outputSize};
 ghost use Rattle.script_state.specs.Start.{begun};
 ghost use Rattle.runner.specs.Line.{Lent};
-ghost use Rattle.runner.specs.Lines.{afterLines, waitsAfterLines, afterLast, lastText, unended, standing, afterScript, waitsAfterScript};
+ghost use Rattle.runner.specs.Lines.{linesIn, waitsIn, afterLast, lastText, unended, standing, afterScript, waitsAfterScript};
 
 // Runs each line that has ended in the text. The output that is left waits.
 pub fn run_lines(
@@ -25,11 +24,8 @@ pub fn run_lines(
 ) -> Rest
     requires { ⌜ Lent (now upload) (now response) (now scratch) (now out) ⌝ }
     requires { ⌜ step .at ≤ much ⌝ }
-    ensures { λ r. ⌜ standing (r .step .state) (now (upload .exit)) (now (response .exit))
-        ≡ afterLines replay (standing (step .state) (now (upload .entry)) (now (response .entry))) (cutAt 10 (now (text .entry))) ⌝ }
-    ensures { λ r. ⌜ take (r .step .at) (now (out .exit))
-        ≡ waitsAfterLines replay (standing (step .state) (now (upload .entry)) (now (response .entry))) (take (step .at) (now (out .entry)))
-        (cutAt 10 (now (text .entry))) ⌝ }
+    ensures { λ r. ⌜ standing (r .step .state) (now (upload .exit)) (now (response .exit)) ≡ linesIn replay (step .state) (now (upload .entry)) (now (response .entry)) (now (text .entry)) ⌝ }
+    ensures { λ r. ⌜ take (r .step .at) (now (out .exit)) ≡ waitsIn replay (step .state) (now (upload .entry)) (now (response .entry)) (take (step .at) (now (out .entry))) (now (text .entry)) ⌝ }
     ensures { λ r. ⌜ (r .from ≤ length (now (text .entry))) × (drop (r .from) (now (text .entry)) ≡ unended (now (text .entry))) ⌝ }
     ensures { λ r. ⌜ r .step .at ≤ much ⌝ }
 {

@@ -70,7 +70,8 @@ upto-done text sum i u h p =
 
 -- ---- what an answer tells
 
-number-cases : (text : List ℕ) (b : Bool) → isNumber text ≡ b → (r : Number) → r ≡ cond b (number.Value (value text)) number.Bad → ((n : ℕ) → r ≡ number.Value n → (b ≡ true) × (n ≡ value text)) × (r ≡ number.Bad → b ≡ false)
+number-cases : (text : List ℕ) (b : Bool) → isNumber text ≡ b → (r : Number) → r ≡ cond b (number.Value (value text)) number.Bad
+    → ((n : ℕ) → r ≡ number.Value n → (b ≡ true) × (n ≡ value text)) × (r ≡ number.Bad → b ≡ false)
 number-cases text true e r w = (λ n q. (refl, cc), λ q. cc)
 number-cases text false e r w = (λ n q. (cc, cc), λ q. refl)
 
@@ -82,9 +83,12 @@ pub number-bad : (text : List ℕ) (r : Number) → r ≡ numberOf text → r �
 unfolding numberOf
 number-bad text r e q = number-cases text (isNumber text) refl r e .1 q
 
+pub in-range : (low x high : ℕ) → (leb low x && leb x high) ≡ true → (low ≤ x) × (x ≤ high)
+in-range low x high e = let h = both (leb low x) (leb x high) e in (leb-true low x (h .0), leb-true x high (h .1))
+
 pub digit-range : (x : ℕ) → isDigit x ≡ true → (48 ≤ x) × (x ≤ 57)
 unfolding isDigit
-digit-range x e = let h = both (leb 48 x) (leb x 57) e in (leb-true 48 x (h .0), leb-true x 57 (h .1))
+digit-range x e = in-range 48 x 57 e
 
 pub own-small : (text : List ℕ) (n : ℕ) → n ≡ value text → n ≤ 1 → leb (value text) 1 ≡ true
 own-small text n e h = rw (← e) (le-leb n 1 h)

@@ -18,7 +18,8 @@ use Rattle.script.proofs.Numbers.{and-false}
 two : (text : List ℕ) (i : ℕ) → i + 1 < length text → drop i text ≡ getD text i 0 ∷ getD text (i + 1) 0 ∷ drop (i + 2) text
 two text i h =
     let e : suc (i + 1) ≡ i + 2 = omega arith in
-    drop-cons text i 0 (omega arith) ∙ ap (λ (l : List ℕ). getD text i 0 ∷ l) (ap (λ (n : ℕ). drop n text) (sym (add-one i)) ∙ drop-cons text (i + 1) 0 h ∙ ap (λ (n : ℕ). getD text (i + 1) 0 ∷ drop n text) e)
+    drop-cons text i 0 (omega arith)
+    ∙ ap (λ (l : List ℕ). getD text i 0 ∷ l) (ap (λ (n : ℕ). drop n text) (sym (add-one i)) ∙ drop-cons text (i + 1) 0 h ∙ ap (λ (n : ℕ). getD text (i + 1) 0 ∷ drop n text) e)
 
 one : (text : List ℕ) (i : ℕ) → i < length text → length text - i ≡ 1 → drop i text ≡ getD text i 0 ∷ []
 one text i h e =

@@ -93,6 +93,11 @@ pub record Next (l : Bytes) (space r : ℕ) : Type 0 where
   pub behind : space < length l → UpTo 32 l (space + 1) r
   pub none : length l ≤ space → r ≡ length l
 
+abbrev pub sixParts : Bytes → Ends → List Bytes
+sixParts l e =
+    between l (e .start) (e .first) ∷ between l (e .first + 1) (e .second) ∷ between l (e .second + 1) (e .third)
+    ∷ between l (e .third + 1) (e .fourth) ∷ between l (e .fourth + 1) (e .fifth) ∷ between l (e .fifth + 1) (length l) ∷ []
+
 -- Six fields with these ends.
 pub record Fields (l : Bytes) (e : Ends) : Type 0 where
   pub zero : e .start ≤ e .first
@@ -101,7 +106,7 @@ pub record Fields (l : Bytes) (e : Ends) : Type 0 where
   pub three : e .third < e .fourth
   pub four : e .fourth < e .fifth
   pub five : e .fifth < length l
-  pub are : fields (drop (e .start) l) ≡ between l (e .start) (e .first) ∷ between l (e .first + 1) (e .second) ∷ between l (e .second + 1) (e .third) ∷ between l (e .third + 1) (e .fourth) ∷ between l (e .fourth + 1) (e .fifth) ∷ between l (e .fifth + 1) (length l) ∷ []
+  pub are : fields (drop (e .start) l) ≡ sixParts l e
 
 abbrev pub fieldOf : Bytes → Ends → ℕ → Bytes
 fieldOf l e i = at (fields (drop (e .start) l)) i

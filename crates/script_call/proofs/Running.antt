@@ -8,13 +8,11 @@ use Rattle.block_state.specs.declared.Answer.{Answer}
 use Rattle.block_table.specs.declared.Table.{Table}
 use Rattle.block_handler.specs.Call.{World, Done, done}
 use Rattle.block_handler.specs.Contract.{world}
-use Rattle.answer_text.specs.Answer.{answerText}
 use Rattle.script.specs.Line.{Said}
-use Rattle.answer_text.specs.Shown.{shownOf}
 use Rattle.script_state.specs.Sizes.{lineRoom}
 use Rattle.script_state.specs.declared.State.{State}
 use Rattle.script_state.specs.declared.Step.{Step}
-use Rattle.script_call.specs.Run.{printed, worldAfter, textAfter, withTable, Runs}
+use Rattle.script_call.specs.Run.{answered, printed, worldAfter, textAfter, withTable, Runs}
 
 pub runs-as : {s : Step} {w : World} {q q′ : Said} {m : List ℕ} {z : Step} {w′ : World} {m′ : List ℕ} → Runs s w q m z w′ m′ → q ≡ q′ → Runs s w q′ m z w′ m′
 runs-as h e = rw (← e) h
@@ -22,7 +20,7 @@ runs-as h e = rw (← e) h
 pub runs-done : {s z : Step} {w : World} {q : Said} {m m′ up away : List ℕ} {t : Table} {a : Answer} (payload : List ℕ) (d : Done)
     → d .world ≡ worldAfter (s .state .config) w q → printed (s .state .number) d payload ≡ textAfter (s .state .config) w (s .state .number) q
     → done (world t up away) a ≡ d → z .state ≡ withTable (s .state) t
-    → Put m (s .at) (answerText (s .state .number) a (shownOf a payload up away)) m′ (z .at) → z .at ≤ s .at + lineRoom
+    → Put m (s .at) (answered (s .state) a payload up away) m′ (z .at) → z .at ≤ s .at + lineRoom
     → Runs s w q m z (world (z .state .table) up away) m′
 runs-done {s} {up = up} {away} payload d ew et e es text room =
     let left = ap (λ (x : State). x .table) es in

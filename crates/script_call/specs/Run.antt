@@ -6,10 +6,14 @@ use mathlib.Core.List.{List}
 use Rattle.config.specs.declared.Config.{Config}
 use Rattle.block_state.specs.declared.RequestNumbers.{RequestNumbers}
 use Rattle.block_state.specs.declared.ResponseNumbers.{ResponseNumbers}
+use Rattle.block_state.specs.declared.Answer.{Answer}
 use Rattle.block_table.specs.declared.Table.{Table}
 use Rattle.block_handler.specs.Call.{World, Done, call}
-use Rattle.block_handler.specs.Contract.{requestCall, responseCall}
-use Rattle.script.specs.Line.{Said, request, response, unreadable}
+use Rattle.block_handler.specs.Contract.{world, requestCall, responseCall}
+use Rattle.script.specs.Line.{Said, request, response, unreadable, saidBy}
+use Rattle.script.specs.declared.Line.the-variants as line
+use Rattle.script.specs.declared.Request.{Request}
+use Rattle.script.specs.declared.Response.{Response}
 use Rattle.answer_text.specs.Answer.{answerText, unreadableText}
 use Rattle.pieces.specs.Memory.{Put}
 use Rattle.answer_text.specs.Shown.{shownOf}
@@ -17,26 +21,29 @@ use Rattle.script_state.specs.Sizes.{lineRoom}
 use Rattle.script_state.specs.declared.State.{State}
 use Rattle.script_state.specs.declared.Step.{Step}
 
--- What is printed of a call that is done: parts of the memories as the call left them.
+-- What is printed of an answer: parts of the payload and of the memories as the call left them.
+abbrev pub answered : State → Answer → List ℕ → List ℕ → List ℕ → List ℕ
+answered s a payload up away = answerText (s .number) a (shownOf a payload up away)
+
 abbrev pub printed : ℕ → Done → List ℕ → List ℕ
 printed n d payload = answerText n (d .answer) (shownOf (d .answer) payload (d .world .upload) (d .world .response))
 
 -- The numbers of a call, as a line says them.
-abbrev asked : ℕ → ℕ → Bool → Bool → RequestNumbers
-asked time bare given1 given2 = record { time = time; bare = bare; block1 = given1; block2 = given2 }
+abbrev requestNumbers : ℕ → ℕ → Bool → Bool → RequestNumbers
+requestNumbers time bare given1 given2 = record { time = time; bare = bare; block1 = given1; block2 = given2 }
 
-abbrev replied : ℕ → ℕ → Bool → ResponseNumbers
-replied time bare own = record { time = time; bare = bare; own = own }
+abbrev responseNumbers : ℕ → ℕ → Bool → ResponseNumbers
+responseNumbers time bare own = record { time = time; bare = bare; own = own }
 
 -- A line that cannot be read changes nothing.
 abbrev pub worldAfter : Config → World → Said → World
-worldAfter c w (request t k b g1 o1 g2 o2 p) = call c w (requestCall (asked t b g1 g2) k o1 o2 p) .world
-worldAfter c w (response t k b own h p) = call c w (responseCall (replied t b own) k h p) .world
+worldAfter c w (request t k b g1 o1 g2 o2 p) = call c w (requestCall (requestNumbers t b g1 g2) k o1 o2 p) .world
+worldAfter c w (response t k b own h p) = call c w (responseCall (responseNumbers t b own) k h p) .world
 worldAfter c w unreadable = w
 
 abbrev pub textAfter : Config → World → ℕ → Said → List ℕ
-textAfter c w n (request t k b g1 o1 g2 o2 p) = printed n (call c w (requestCall (asked t b g1 g2) k o1 o2 p)) p
-textAfter c w n (response t k b own h p) = printed n (call c w (responseCall (replied t b own) k h p)) p
+textAfter c w n (request t k b g1 o1 g2 o2 p) = printed n (call c w (requestCall (requestNumbers t b g1 g2) k o1 o2 p)) p
+textAfter c w n (response t k b own h p) = printed n (call c w (responseCall (responseNumbers t b own) k h p)) p
 textAfter c w n unreadable = unreadableText n
 
 -- The state with another table.
@@ -49,3 +56,14 @@ pub record Runs (s : Step) (w : World) (q : Said) (m : List ℕ) (z : Step) (w�
   pub world : w′ ≡ worldAfter (s .state .config) w q
   pub text : Put m (s .at) (textAfter (s .state .config) w (s .state .number) q) m′ (z .at)
   pub room : z .at ≤ s .at + lineRoom
+
+-- ---- the same with what is lent: the memories, and the buffer that the fields are read from
+
+abbrev pub asked : Request → List ℕ → Said
+asked r scratch = saidBy (line.Request r) scratch
+
+abbrev pub replied : Response → List ℕ → Said
+replied r scratch = saidBy (line.Response r) scratch
+
+abbrev pub Ran : Step → List ℕ → List ℕ → Said → List ℕ → Step → List ℕ → List ℕ → List ℕ → Type 0
+Ran s up away q m z up′ away′ m′ = Runs s (world (s .state .table) up away) q m z (world (z .state .table) up′ away′) m′

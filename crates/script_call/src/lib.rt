@@ -10,12 +10,9 @@ use script_state::Step;
 ghost use mathlib.Core.Path.{_≡_};
 ghost use Prim.Native.Nat.{_+_, _*_, _≤_};
 ghost use lib.ListN.{length};
-ghost use Rattle.answer_text.specs.Answer.{answerText};
-ghost use Rattle.block_handler.specs.Contract.{world};
 ghost use Rattle.pieces.specs.Memory.{Put};
-ghost use Rattle.script.specs.Line.{InBuffer, saidBy, lineOf};
-ghost use Rattle.script_call.specs.Run.{Runs, withTable};
-ghost use Rattle.answer_text.specs.Shown.{shownOf};
+ghost use Rattle.script.specs.Line.{InBuffer, lineOf};
+ghost use Rattle.script_call.specs.Run.{withTable, answered, asked, replied, Ran};
 ghost use Rattle.script_state.specs.Sizes.{memorySize, lineRoom};
 
 // An answer, with what it shows of the message's payload and of the memories as the call left them.
@@ -30,9 +27,7 @@ fn print<'a>(
     requires { ⌜ (length (now payload) ≤ memorySize) × (length (now upload) ≤ memorySize) × (length (now response) ≤ memorySize) ⌝ }
     requires { ⌜ step .at + lineRoom ≤ length (now out) ⌝ }
     ensures { λ z. ⌜ z .state ≡ withTable (step .state) (outcome .table) ⌝ }
-    ensures { λ z. ⌜ Put (now (out .entry)) (step .at)
-        (answerText (step .state .number) (outcome .answer) (shownOf (outcome .answer) (now (payload .entry)) (now (upload .entry)) (now (response .entry))))
-        (now (out .exit)) (z .at) ⌝ }
+    ensures { λ z. ⌜ Put (now (out .entry)) (step .at) (answered (step .state) (outcome .answer) (now (payload .entry)) (now (upload .entry)) (now (response .entry))) (now (out .exit)) (z .at) ⌝ }
     ensures { λ z. ⌜ z .at ≤ step .at + lineRoom ⌝ }
 {
     let state = step.state;
@@ -52,33 +47,32 @@ fn print<'a>(
     }
 }
 
-// A request. Its fields' bytes stand in the buffer.
+// A r. Its fields' bytes stand in the buffer.
 fn ask<'a>(
     step: Step,
-    request: Request,
+    r: Request,
     upload: &mut [u8],
     response: &'a [u8],
     scratch: &'a [u8],
     out: &mut [u8],
 ) -> Step
-    requires { ⌜ InBuffer (Line.Request request) (now scratch) × (length (now scratch) ≤ memorySize) ⌝ }
+    requires { ⌜ InBuffer (Line.Request r) (now scratch) × (length (now scratch) ≤ memorySize) ⌝ }
     requires { ⌜ (length (now upload) ≤ memorySize) × (length (now response) ≤ memorySize) × (step .at + lineRoom ≤ length (now out)) ⌝ }
-    ensures { λ z. ⌜ Runs step (world (step .state .table) (now (upload .entry)) (now (response .entry))) (saidBy (Line.Request request) (now (scratch .entry)))
-        (now (out .entry)) z (world (z .state .table) (now (upload .exit)) (now (response .entry))) (now (out .exit)) ⌝ }
+    ensures { λ z. ⌜ Ran step (now (upload .entry)) (now (response .entry)) (asked r (now (scratch .entry))) (now (out .entry)) z (now (upload .exit)) (now (response .entry)) (now (out .exit)) ⌝ }
 {
     let state = step.state;
     let config = state.config;
     let table = state.table;
-    let call = request.call;
+    let call = r.call;
     let k = call.key;
     let p = call.payload;
-    let o1 = request.block1;
-    let o2 = request.block2;
+    let o1 = r.block1;
+    let o2 = r.block2;
     let numbers = RequestNumbers {
         time: call.time,
         bare: call.bare,
-        block1: request.given1,
-        block2: request.given2,
+        block1: r.given1,
+        block2: r.given2,
     };
     let outcome = block_handler::intercept_request(
         config,
@@ -97,28 +91,27 @@ fn ask<'a>(
 // A response likewise.
 fn reply<'a>(
     step: Step,
-    replied: Response,
+    r: Response,
     upload: &'a [u8],
     response: &mut [u8],
     scratch: &'a [u8],
     out: &mut [u8],
 ) -> Step
-    requires { ⌜ InBuffer (Line.Response replied) (now scratch) × (length (now scratch) ≤ memorySize) ⌝ }
+    requires { ⌜ InBuffer (Line.Response r) (now scratch) × (length (now scratch) ≤ memorySize) ⌝ }
     requires { ⌜ (length (now upload) ≤ memorySize) × (length (now response) ≤ memorySize) × (step .at + lineRoom ≤ length (now out)) ⌝ }
-    ensures { λ z. ⌜ Runs step (world (step .state .table) (now (upload .entry)) (now (response .entry))) (saidBy (Line.Response replied) (now (scratch .entry)))
-        (now (out .entry)) z (world (z .state .table) (now (upload .entry)) (now (response .exit))) (now (out .exit)) ⌝ }
+    ensures { λ z. ⌜ Ran step (now (upload .entry)) (now (response .entry)) (replied r (now (scratch .entry))) (now (out .entry)) z (now (upload .entry)) (now (response .exit)) (now (out .exit)) ⌝ }
 {
     let state = step.state;
     let config = state.config;
     let table = state.table;
-    let call = replied.call;
+    let call = r.call;
     let k = call.key;
     let p = call.payload;
-    let h = replied.head;
+    let h = r.head;
     let numbers = ResponseNumbers {
         time: call.time,
         bare: call.bare,
-        own: replied.own,
+        own: r.own,
     };
     let outcome = block_handler::intercept_response(
         config,
@@ -144,8 +137,7 @@ pub fn run_line(
 ) -> Step
     requires { ⌜ (length (now line) ≤ 2 * length (now scratch)) × (length (now scratch) ≤ memorySize) ⌝ }
     requires { ⌜ (length (now upload) ≤ memorySize) × (length (now response) ≤ memorySize) × (step .at + lineRoom ≤ length (now out)) ⌝ }
-    ensures { λ z. ⌜ Runs step (world (step .state .table) (now (upload .entry)) (now (response .entry))) (lineOf (now (line .entry))) (now (out .entry)) z
-        (world (z .state .table) (now (upload .exit)) (now (response .exit))) (now (out .exit)) ⌝ }
+    ensures { λ z. ⌜ Ran step (now (upload .entry)) (now (response .entry)) (lineOf (now (line .entry))) (now (out .entry)) z (now (upload .exit)) (now (response .exit)) (now (out .exit)) ⌝ }
 {
     match script::read_line(line, scratch) {
         Line::Request(r) => ask(step, r, upload, response, scratch, out),

@@ -17,28 +17,10 @@ abbrev μ-loop : tie.MeasureT-loop
 μ-loop text₀ upload₀ response₀ scratch₀ out₀ step₀ held₀ end₀ turns₀ text upload response scratch out step held end turns =
     turns
 
-start-requires : tie.Need-start-requires Inv-loop μ-loop
-start-requires c κs = search needs
-
-read-on-requires : tie.Need-read-on-requires Inv-loop μ-loop
-read-on-requires c κs = search needs
-
-turns-left-requires : tie.Need-turns-left-requires Inv-loop μ-loop
-turns-left-requires c κs = search needs
-
 loop-holds : tie.Need-loop-holds Inv-loop μ-loop
 loop-holds c =
     let read = c .before .before .before .read-on in
     ((refl, refl, refl, refl, refl), (omega arith, omega (arith, read .ensures .0 .1, read .kept), c .before .before .before .before .before .before .before .start .ensures .1 .1))
-
-sub-run-lines : tie.Need-sub-run-lines Inv-loop μ-loop
-sub-run-lines c = search needs
-
-part-run-lines-start : tie.Need-part-run-lines-start Inv-loop μ-loop
-part-run-lines-start c = search needs
-
-part-run-lines-end : tie.Need-part-run-lines-end Inv-loop μ-loop
-part-run-lines-end c = search needs
 
 run-lines-requires : tie.Need-run-lines-requires Inv-loop μ-loop
 run-lines-requires c κs =
@@ -61,7 +43,9 @@ read-on-requires-2 c κs =
     omega (arith, kept .ensures .0, kept .kept, loop .loop .inv .0, read .read-on .kept, read .before .before .before .before .before .before .before .before .before .before .before .pre .0)
 
 turns-left-requires-2 : tie.Need-turns-left-requires-2 Inv-loop μ-loop
-turns-left-requires-2 c κs = c .before .before .before .before .before .before .before .before .before .before .before .before .before .before .before .before .before .before .before .before .before .before .before .before .loop-test .taken
+turns-left-requires-2 c κs =
+    let kept = c .before .before .before .before .before .before in
+    kept .before .before .before .before .before .before .before .before .before .before .before .before .before .before .before .before .before .before .loop-test .taken
 
 loop-less : tie.Need-loop-less Inv-loop μ-loop
 loop-less c = c .turns-left2 .ensures .1
@@ -76,12 +60,6 @@ loop-again c =
       (omega (arith, kept .kept, read .kept, inv .0), omega (arith, same, inv .0), omega (arith, same, inv .0), omega (arith, same, inv .0), omega (arith, same, inv .0)),
       (omega (arith, kept .ensures .0), omega (arith, read .ensures .0 .1, read .kept), ran .run-lines .ensures .1 .1 .1),
     )
-
-sub-run-last : tie.Need-sub-run-last Inv-loop μ-loop
-sub-run-last c = search needs
-
-part-run-last-start : tie.Need-part-run-last-start Inv-loop μ-loop
-part-run-last-start c = search needs
 
 part-run-last-end : tie.Need-part-run-last-end Inv-loop μ-loop
 part-run-last-end c =
@@ -104,22 +82,33 @@ print-requires c κs =
     omega (arith, last .ensures .1 .1, last .kept, loop .loop .inv .0, begun .start .kept, begun .before .before .before .before .before .before .before .pre .1 .output)
 
 same-length : tie.Need-same-length Inv-loop μ-loop
-same-length c = let loop = c .before .before .before .before .before .before .before .before .before .before .before .before .before .before .before .before .before .before in omega (arith, loop .loop .inv .0, loop .before .before .before .before .read-on .kept)
+same-length c =
+    let loop = c .before .before .before .before .before .before .before .before .before .before .before .before .before .before .before .before .before .before in
+    omega (arith, loop .loop .inv .0, loop .before .before .before .before .read-on .kept)
 
 same-length-2 : tie.Need-same-length-2 Inv-loop μ-loop
-same-length-2 c = let loop = c .before .before .before .before .before .before .before .before .before .before .before .before .before .before .before .before .before .before in omega (arith, c .before .before .before .before .before .before .before .before .before .before .run-last .kept, loop .loop .inv .0, loop .before .before .before .before .before .before .before .before .start .kept)
+same-length-2 c =
+    let last = c .before .before .before .before .before .before .before .before .before .before in
+    let loop = last .before .before .before .before .before .before .before .before in
+    omega (arith, last .run-last .kept, loop .loop .inv .0, loop .before .before .before .before .before .before .before .before .start .kept)
 
 same-length-3 : tie.Need-same-length-3 Inv-loop μ-loop
-same-length-3 c = let loop = c .before .before .before .before .before .before .before .before .before .before .before .before .before .before .before .before .before .before in omega (arith, c .before .before .before .before .before .before .before .before .before .before .run-last .kept, loop .loop .inv .0, loop .before .before .before .before .before .before .before .before .start .kept)
+same-length-3 c =
+    let last = c .before .before .before .before .before .before .before .before .before .before in
+    let loop = last .before .before .before .before .before .before .before .before in
+    omega (arith, last .run-last .kept, loop .loop .inv .0, loop .before .before .before .before .before .before .before .before .start .kept)
 
 same-length-4 : tie.Need-same-length-4 Inv-loop μ-loop
-same-length-4 c = let loop = c .before .before .before .before .before .before .before .before .before .before .before .before .before .before .before .before .before .before in omega (arith, c .before .before .before .before .before .before .before .before .before .before .run-last .kept, loop .loop .inv .0, loop .before .before .before .before .before .before .before .before .start .kept)
+same-length-4 c =
+    let last = c .before .before .before .before .before .before .before .before .before .before in
+    let loop = last .before .before .before .before .before .before .before .before in
+    omega (arith, last .run-last .kept, loop .loop .inv .0, loop .before .before .before .before .before .before .before .before .start .kept)
 
 same-length-5 : tie.Need-same-length-5 Inv-loop μ-loop
-same-length-5 c = let loop = c .before .before .before .before .before .before .before .before .before .before .before .before .before .before .before .before .before .before in omega (arith, c .before .before .before .before .before .before .before .before .before .before .run-last .kept, loop .loop .inv .0, loop .before .before .before .before .before .before .before .before .start .kept)
-
-returns : tie.Need-returns Inv-loop μ-loop
-returns c = search needs
+same-length-5 c =
+    let last = c .before .before .before .before .before .before .before .before .before .before in
+    let loop = last .before .before .before .before .before .before .before .before in
+    omega (arith, last .run-last .kept, loop .loop .inv .0, loop .before .before .before .before .before .before .before .before .start .kept)
 
 pub run-spec : {M : Type 1} → statement M
 run-spec =
@@ -127,21 +116,21 @@ run-spec =
     (tie.spec
     Inv-loop
     μ-loop
-    start-requires
-    read-on-requires
-    turns-left-requires
+    (λ c κs. search needs)
+    (λ c κs. search needs)
+    (λ c κs. search needs)
     loop-holds
-    sub-run-lines
-    part-run-lines-start
-    part-run-lines-end
+    (λ c. search needs)
+    (λ c. search needs)
+    (λ c. search needs)
     run-lines-requires
     keep-requires
     read-on-requires-2
     turns-left-requires-2
     loop-less
     loop-again
-    sub-run-last
-    part-run-last-start
+    (λ c. search needs)
+    (λ c. search needs)
     part-run-last-end
     run-last-requires
     print-requires
@@ -150,4 +139,4 @@ run-spec =
     same-length-3
     same-length-4
     same-length-5
-    returns)
+    (λ c. search needs))

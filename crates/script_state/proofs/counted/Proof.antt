@@ -4,13 +4,10 @@ use borrow.Author.Needs.{needs}
 use Rattle.script_state.proofs.counted.Statement.{statement}
 use Rattle.script_state.proofs.counted.Tie as tie
 
-wrapping-add-u64-requires : tie.Need-wrapping-add-u64-requires
-wrapping-add-u64-requires c κs = search needs
-
 returns : tie.Need-returns
 returns c =
     let step = c .before .before .before .before .args .step in
     ap (λ (n : ℕ). record { state = record { config = step .state .config; table = step .state .table; number = n }; at = step .at }) (c .wrapping-add-u64 .ensures)
 
 pub counted-spec : {M : Type 1} → statement M
-counted-spec = tie.close (tie.spec wrapping-add-u64-requires returns)
+counted-spec = tie.close (tie.spec (λ c κs. search needs) returns)

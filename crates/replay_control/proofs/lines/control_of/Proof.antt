@@ -5,23 +5,8 @@ use borrow.Author.Needs.{needs}
 use Rattle.replay_control.proofs.lines.control_of.Statement.{statement}
 use Rattle.replay_control.proofs.lines.control_of.Tie as tie
 
-slice-aggregate-same-bytes : tie.Need-slice-aggregate-same-bytes
-slice-aggregate-same-bytes c = search needs
-
-same-bytes-requires : tie.Need-same-bytes-requires
-same-bytes-requires c κs = search needs
-
 returns : tie.Need-returns
 returns c = show-line _ (sym (c .before .same-bytes .ensures) ∙ c .if1 .taken)
-
-split-six-requires : tie.Need-split-six-requires
-split-six-requires c κs = search needs
-
-enum-known-ends : tie.Need-enum-known-ends
-enum-known-ends c = search needs
-
-enum-told : tie.Need-enum-told
-enum-told c = search needs
 
 returns-2 : tie.Need-returns-2
 returns-2 c =
@@ -41,12 +26,12 @@ pub control-of-spec : {M : Type 1} → statement M
 control-of-spec =
     tie.close
     (tie.spec
-    slice-aggregate-same-bytes
-    same-bytes-requires
+    (λ c. search needs)
+    (λ c κs. search needs)
     returns
-    split-six-requires
-    enum-known-ends
-    enum-told
+    (λ c κs. search needs)
+    (λ c. search needs)
+    (λ c. search needs)
     returns-2
     start-of-requires
     returns-3)

@@ -4,18 +4,6 @@ use borrow.Author.Needs.{needs}
 use Rattle.replay_control.proofs.lines.put_config.Statement.{statement}
 use Rattle.replay_control.proofs.lines.put_config.Tie as tie
 
-put-decimal-requires : tie.Need-put-decimal-requires
-put-decimal-requires c κs = search needs
-
-slice-aggregate-put : tie.Need-slice-aggregate-put
-slice-aggregate-put c = search needs
-
-put-requires : tie.Need-put-requires
-put-requires c κs = search needs
-
-same-length : tie.Need-same-length
-same-length c = search needs
-
 returns : tie.Need-returns
 unfolding configText
 returns c =
@@ -25,4 +13,4 @@ returns c =
 
 pub put-config-spec : {M : Type 1} → statement M
 put-config-spec =
-    tie.close (tie.spec put-decimal-requires slice-aggregate-put put-requires same-length returns)
+    tie.close (tie.spec (λ c κs. search needs) (λ c. search needs) (λ c κs. search needs) (λ c. search needs) returns)

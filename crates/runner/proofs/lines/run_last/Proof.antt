@@ -15,25 +15,10 @@ returns c =
     let none = none-last (args .replay) (standing (args .step .state) (args .upload .now) (args .response .now)) (args .text .now) (c .if1 .taken) in
     (none .0, (put-as (put-none _ _ (omega (arith, start .pre .0 .output, start .pre .1))) (none .1), omega (arith, start .pre .1)))
 
-counted-requires : tie.Need-counted-requires
-counted-requires c κs = search needs
-
 run-any-requires : tie.Need-run-any-requires
 run-any-requires c κs =
     let start = c .before .before .before .before .before .before .before .before .before .before .before in
     (start .pre .0, omega (arith, ap (λ (x : Step). x .at) (c .before .before .before .before .counted .ensures), start .pre .1))
-
-same-length : tie.Need-same-length
-same-length c = search needs
-
-same-length-2 : tie.Need-same-length-2
-same-length-2 c = search needs
-
-same-length-3 : tie.Need-same-length-3
-same-length-3 c = search needs
-
-same-length-4 : tie.Need-same-length-4
-same-length-4 c = search needs
 
 returns-2 : tie.Need-returns-2
 returns-2 c =
@@ -51,10 +36,10 @@ run-last-spec =
     tie.close
     (tie.spec
     returns
-    counted-requires
+    (λ c κs. search needs)
     run-any-requires
-    same-length
-    same-length-2
-    same-length-3
-    same-length-4
+    (λ c. search needs)
+    (λ c. search needs)
+    (λ c. search needs)
+    (λ c. search needs)
     returns-2)

@@ -20,14 +20,8 @@ Inv-loop replay text upload₀ response₀ scratch₀ out₀ here₀ from₀ end
 abbrev μ-loop : tie.MeasureT-loop
 μ-loop replay text upload₀ response₀ scratch₀ out₀ here₀ from₀ end₀ upload response scratch out here from end = length text - from
 
-mark-from-requires : tie.Need-mark-from-requires Inv-loop μ-loop
-mark-from-requires c κs = search needs
-
 loop-holds : tie.Need-loop-holds Inv-loop μ-loop
 loop-holds c = ((refl, refl, refl, refl), (c .before .before .before .before .before .before .pre .1, going-start _ _ _ _ _ (c .mark-from .ensures)))
-
-counted-requires : tie.Need-counted-requires Inv-loop μ-loop
-counted-requires c κs = search needs
 
 sub-run-any : tie.Need-sub-run-any Inv-loop μ-loop
 sub-run-any c = omega (arith, c .before .before .loop .inv .1 .1 .cut .after, c .before .before .loop .inv .1 .1 .cut .within)
@@ -40,24 +34,31 @@ part-run-any-end c = omega (arith, c .before .before .loop .inv .1 .1 .cut .afte
 
 run-any-requires : tie.Need-run-any-requires Inv-loop μ-loop
 run-any-requires c κs =
-    let inv = c .before .before .before .before .before .before .before .loop .inv in
-    (lent-kept (c .before .before .before .before .before .before .before .before .before .before .before .before .before .before .pre .0) (inv .0), omega (arith, ap (λ (x : Step). x .at) (c .before .before .before .before .before .counted .ensures), inv .1 .0))
+    let counted = c .before .before .before .before .before in
+    let loop = counted .before .before in
+    let start = loop .before .before .before .before .before .before .before in
+    (lent-kept (start .pre .0) (loop .loop .inv .0), omega (arith, ap (λ (x : Step). x .at) (counted .counted .ensures), loop .loop .inv .1 .0))
 
 flushed-requires : tie.Need-flushed-requires Inv-loop μ-loop
 flushed-requires c κs =
     let ran = c .before .before .before .before .before .before .before .before .before in
     let counted = ran .before .before .before .before .before .before in
-    let inv = counted .before .before .loop .inv in
-    omega (arith, ran .run-any .ensures .room, ran .run-any .kept, ap (λ (x : Step). x .at) (counted .counted .ensures), inv .0, inv .1 .0, c .before .before .before .before .before .before .before .before .before .before .before .before .before .before .before .before .before .before .before .before .before .before .before .before .pre .0 .output)
+    let loop = counted .before .before in
+    let start = loop .before .before .before .before .before .before .before in
+    omega (arith, ran .run-any .ensures .room, ran .run-any .kept, ap (λ (x : Step). x .at) (counted .counted .ensures), loop .loop .inv .0, loop .loop .inv .1 .0, start .pre .0 .output)
 
 add-from : tie.Need-add-from Inv-loop μ-loop
-add-from c = omega (arith, c .before .before .before .before .before .before .before .before .before .before .before .before .before .before .before .before .before .loop-test .taken, c .before .before .before .before .before .before .before .before .before .before .before .before .before .before .before .before .before .before .before .before .before .before .before .before .before .good .1 .1 .0)
+add-from c =
+    let turn = c .before .before .before .before .before .before .before .before .before .before .before .before .before .before .before .before .before in
+    omega (arith, turn .loop-test .taken, turn .before .before .before .before .before .before .before .before .good .1 .1 .0)
 
 mark-from-requires-2 : tie.Need-mark-from-requires-2 Inv-loop μ-loop
 mark-from-requires-2 c κs = omega (arith, c .before .before .before .before .before .before .before .before .before .before .before .before .before .before .before .before .before .loop-test .taken)
 
 loop-less : tie.Need-loop-less Inv-loop μ-loop
-loop-less c = omega (arith, c .before .before .before .before .before .before .before .before .before .before .before .before .before .before .before .before .before .before .loop-test .taken, c .before .before .before .before .before .before .before .before .before .before .before .before .before .before .before .before .before .before .before .loop .inv .1 .1 .cut .after)
+loop-less c =
+    let turn = c .before .before .before .before .before .before .before .before .before .before .before .before .before .before .before .before .before .before in
+    omega (arith, turn .loop-test .taken, turn .before .loop .inv .1 .1 .cut .after)
 
 loop-again : tie.Need-loop-again Inv-loop μ-loop
 loop-again c =
@@ -73,21 +74,10 @@ loop-again c =
       (
         few (ran .run-any .result .at) _ (ap (λ (x : Step). x .at) flushed),
         going-on _ _ _ _ _ _ _ _ (loop .inv .1 .1) (counted .before .loop-test .taken) _ _ _
-            (ap (λ (x : Step). standing (x .state) (last .0) (last .1 .0)) flushed ∙ stands _ stood _ left refl) (put-flushed (left .text) (ap (λ (x : Step). x .at) flushed)) (c .mark-from2 .ensures),
+            (ap (λ (x : Step). standing (x .state) (last .0) (last .1 .0)) flushed ∙ stands _ stood _ left refl)
+            (put-flushed (left .text) (ap (λ (x : Step). x .at) flushed)) (c .mark-from2 .ensures),
       ),
     )
-
-same-length : tie.Need-same-length Inv-loop μ-loop
-same-length c = search needs
-
-same-length-2 : tie.Need-same-length-2 Inv-loop μ-loop
-same-length-2 c = search needs
-
-same-length-3 : tie.Need-same-length-3 Inv-loop μ-loop
-same-length-3 c = search needs
-
-same-length-4 : tie.Need-same-length-4 Inv-loop μ-loop
-same-length-4 c = search needs
 
 returns : tie.Need-returns Inv-loop μ-loop
 returns c =
@@ -101,9 +91,9 @@ run-lines-spec =
     (tie.spec
     Inv-loop
     μ-loop
-    mark-from-requires
+    (λ c κs. search needs)
     loop-holds
-    counted-requires
+    (λ c κs. search needs)
     sub-run-any
     part-run-any-start
     part-run-any-end
@@ -113,8 +103,8 @@ run-lines-spec =
     mark-from-requires-2
     loop-less
     loop-again
-    same-length
-    same-length-2
-    same-length-3
-    same-length-4
+    (λ c. search needs)
+    (λ c. search needs)
+    (λ c. search needs)
+    (λ c. search needs)
     returns)

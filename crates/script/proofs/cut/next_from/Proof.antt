@@ -6,14 +6,8 @@ use Rattle.script.proofs.cut.next_from.Tie as tie
 returns : tie.Need-returns
 returns c = next-none (c .if1 .taken)
 
-add-mark-from : tie.Need-add-mark-from
-add-mark-from c = search needs
-
-mark-from-requires : tie.Need-mark-from-requires
-mark-from-requires c κs = search needs
-
 returns-2 : tie.Need-returns-2
 returns-2 c = next-behind (c .before .if1 .left) (c .mark-from .ensures)
 
 pub next-from-spec : {M : Type 1} → statement M
-next-from-spec = tie.close (tie.spec returns add-mark-from mark-from-requires returns-2)
+next-from-spec = tie.close (tie.spec returns (λ c. search needs) (λ c κs. search needs) returns-2)

@@ -4,24 +4,6 @@ use borrow.Author.Needs.{needs}
 use Rattle.script.proofs.cut.split_six.Statement.{statement}
 use Rattle.script.proofs.cut.split_six.Tie as tie
 
-mark-from-requires : tie.Need-mark-from-requires
-mark-from-requires c κs = search needs
-
-next-from-requires : tie.Need-next-from-requires
-next-from-requires c κs = search needs
-
-next-from-requires-2 : tie.Need-next-from-requires-2
-next-from-requires-2 c κs = search needs
-
-next-from-requires-3 : tie.Need-next-from-requires-3
-next-from-requires-3 c κs = search needs
-
-next-from-requires-4 : tie.Need-next-from-requires-4
-next-from-requires-4 c κs = search needs
-
-next-from-requires-5 : tie.Need-next-from-requires-5
-next-from-requires-5 c κs = search needs
-
 returns : tie.Need-returns
 returns c =
     let third = c .before .before .before in
@@ -52,12 +34,12 @@ pub split-six-spec : {M : Type 1} → statement M
 split-six-spec =
     tie.close
     (tie.spec
-    mark-from-requires
-    next-from-requires
-    next-from-requires-2
-    next-from-requires-3
-    next-from-requires-4
-    next-from-requires-5
+    (λ c κs. search needs)
+    (λ c κs. search needs)
+    (λ c κs. search needs)
+    (λ c κs. search needs)
+    (λ c κs. search needs)
+    (λ c κs. search needs)
     returns
     returns-2
     returns-3)

@@ -5,9 +5,6 @@ use Rattle.script.proofs.Pairs.{reads-bad, dot-bytes, no-bytes, pairs-b
 use Rattle.script.proofs.fields.bytes_field.Statement.{statement}
 use Rattle.script.proofs.fields.bytes_field.Tie as tie
 
-is-mark-requires : tie.Need-is-mark-requires
-is-mark-requires c κs = search needs
-
 returns : tie.Need-returns
 returns c = dot-bytes _ _ _ (c .before .before .before .before .pre) (sym (c .before .is-mark .ensures) ∙ c .if1 .taken)
 
@@ -16,29 +13,8 @@ returns-2 c =
     let marked = c .before .before in
     reads-bad (no-bytes _ (sym (marked .is-mark .ensures) ∙ c .before .if1 .left) (c .if2 .taken))
 
-sub-decode-pairs : tie.Need-sub-decode-pairs
-sub-decode-pairs c = search needs
-
-part-decode-pairs-start : tie.Need-part-decode-pairs-start
-part-decode-pairs-start c = search needs
-
-part-decode-pairs-end : tie.Need-part-decode-pairs-end
-part-decode-pairs-end c = search needs
-
-decode-pairs-requires : tie.Need-decode-pairs-requires
-decode-pairs-requires c κs = search needs
-
-enum-known-n : tie.Need-enum-known-n
-enum-known-n c = search needs
-
 add-t13 : tie.Need-add-t13
 add-t13 c = let decoded = c .before .before .before .before .before in omega (arith, decoded .decode-pairs .ensures .1 _ (c .before .n .given .1))
-
-enum-told : tie.Need-enum-told
-enum-told c = search needs
-
-same-length : tie.Need-same-length
-same-length c = search needs
 
 returns-3 : tie.Need-returns-3
 returns-3 c =
@@ -46,9 +22,6 @@ returns-3 c =
     let marked = decoded .before .before .before .before in
     pairs-bytes _ (sym (marked .is-mark .ensures) ∙ decoded .before .before .before .if1 .left) (decoded .before .before .if2 .left)
     _ (decoded .decode-pairs .ensures .0) _ _ _ _ _ (marked .before .before .before .pre) (decoded .decode-pairs .ensures .1) (c .before .n .given .1)
-
-same-length-2 : tie.Need-same-length-2
-same-length-2 c = search needs
 
 returns-4 : tie.Need-returns-4
 returns-4 c =
@@ -62,17 +35,17 @@ pub bytes-field-spec : {M : Type 1} → statement M
 bytes-field-spec =
     tie.close
     (tie.spec
-    is-mark-requires
+    (λ c κs. search needs)
     returns
     returns-2
-    sub-decode-pairs
-    part-decode-pairs-start
-    part-decode-pairs-end
-    decode-pairs-requires
-    enum-known-n
+    (λ c. search needs)
+    (λ c. search needs)
+    (λ c. search needs)
+    (λ c κs. search needs)
+    (λ c. search needs)
     add-t13
-    enum-told
-    same-length
+    (λ c. search needs)
+    (λ c. search needs)
     returns-3
-    same-length-2
+    (λ c. search needs)
     returns-4)

@@ -3,12 +3,9 @@ use Rattle.script.specs.Fields.{isGiven}
 use Rattle.script.proofs.fields.is_given.Statement.{statement}
 use Rattle.script.proofs.fields.is_given.Tie as tie
 
-is-mark-requires : tie.Need-is-mark-requires
-is-mark-requires c κs = search needs
-
 returns : tie.Need-returns
 unfolding isGiven
 returns c = rw (c .is-mark .ensures)
 
 pub is-given-spec : {M : Type 1} → statement M
-is-given-spec = tie.close (tie.spec is-mark-requires returns)
+is-given-spec = tie.close (tie.spec (λ c κs. search needs) returns)

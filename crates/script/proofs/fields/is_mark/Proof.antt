@@ -8,12 +8,9 @@ returns : tie.Need-returns
 unfolding isMark
 returns c = rw (ne-eqb _ _ (c .if1 .taken))
 
-shared-slice-read-result : tie.Need-shared-slice-read-result
-shared-slice-read-result c = search needs
-
 returns-2 : tie.Need-returns-2
 unfolding isMark
 returns-2 c = rw (eq-eqb _ _ (c .before .if1 .left))
 
 pub is-mark-spec : {M : Type 1} → statement M
-is-mark-spec = tie.close (tie.spec returns shared-slice-read-result returns-2)
+is-mark-spec = tie.close (tie.spec returns (λ c. search needs) returns-2)

@@ -21,17 +21,8 @@ returns c = sym (no-digit _ (c .if1 .taken))
 loop-holds : tie.Need-loop-holds Inv-loop μ-loop
 loop-holds c = upto-start _
 
-shared-slice-read-x : tie.Need-shared-slice-read-x Inv-loop μ-loop
-shared-slice-read-x c = search needs
-
-is-digit-requires : tie.Need-is-digit-requires Inv-loop μ-loop
-is-digit-requires c κs = search needs
-
 returns-2 : tie.Need-returns-2 Inv-loop μ-loop
 returns-2 c = sym (bad-digit _ _ _ (c .before .before .before .before .loop .inv) (c .before .before .before .loop-test .taken) (sym (c .before .is-digit .ensures) ∙ not-true _ (c .if2 .taken)))
-
-u64-of-u8-requires : tie.Need-u64-of-u8-requires Inv-loop μ-loop
-u64-of-u8-requires c κs = search needs
 
 sub-d : tie.Need-sub-d Inv-loop μ-loop
 sub-d c = omega (arith, digit-range _ (sym (c .before .before .is-digit .ensures) ∙ not-false _ (c .before .if2 .left)))
@@ -39,29 +30,15 @@ sub-d c = omega (arith, digit-range _ (sym (c .before .before .is-digit .ensures
 returns-3 : tie.Need-returns-3 Inv-loop μ-loop
 returns-3 c = sym (too-large _ _ _ (c .before .before .before .before .before .before .loop .inv) (c .before .before .before .before .before .loop-test .taken) (omega arith))
 
-sub-if4 : tie.Need-sub-if4 Inv-loop μ-loop
-sub-if4 c = search needs
-
-mul-if4 : tie.Need-mul-if4 Inv-loop μ-loop
-mul-if4 c = search needs
-
 returns-4 : tie.Need-returns-4 Inv-loop μ-loop
 returns-4 c = sym (too-large _ _ _ (c .before .before .before .before .before .before .before .loop .inv) (c .before .before .before .before .before .before .loop-test .taken) (omega arith))
 
-mul-sum : tie.Need-mul-sum Inv-loop μ-loop
-mul-sum c = search needs
-
-add-sum : tie.Need-add-sum Inv-loop μ-loop
-add-sum c = search needs
-
-add-i : tie.Need-add-i Inv-loop μ-loop
-add-i c = search needs
-
-loop-less : tie.Need-loop-less Inv-loop μ-loop
-loop-less c = search needs
-
 loop-again : tie.Need-loop-again Inv-loop μ-loop
-loop-again c = upto-turn _ _ _ _ (c .before .before .before .before .before .before .before .loop .inv) (c .before .before .before .before .before .before .loop-test .taken) (sym (c .before .before .before .before .is-digit .ensures) ∙ not-false _ (c .before .before .before .if2 .left)) (omega arith) (omega arith)
+loop-again c =
+    let tested = c .before .before .before .before in
+    let loop = tested .before .before .before in
+    upto-turn _ _ _ _ (loop .loop .inv) (tested .before .before .loop-test .taken) (sym (tested .is-digit .ensures) ∙ not-false _ (c .before .before .before .if2 .left))
+    (omega arith) (omega arith)
 
 returns-5 : tie.Need-returns-5 Inv-loop μ-loop
 returns-5 c = sym (upto-done _ _ _ (c .before .loop .inv) (c .loop-test .left) (c .before .before .if1 .left))
@@ -74,18 +51,18 @@ number-field-spec =
     μ-loop
     returns
     loop-holds
-    shared-slice-read-x
-    is-digit-requires
+    (λ c. search needs)
+    (λ c κs. search needs)
     returns-2
-    u64-of-u8-requires
+    (λ c κs. search needs)
     sub-d
     returns-3
-    sub-if4
-    mul-if4
+    (λ c. search needs)
+    (λ c. search needs)
     returns-4
-    mul-sum
-    add-sum
-    add-i
-    loop-less
+    (λ c. search needs)
+    (λ c. search needs)
+    (λ c. search needs)
+    (λ c. search needs)
     loop-again
     returns-5)

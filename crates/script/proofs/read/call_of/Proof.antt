@@ -8,64 +8,25 @@ use Rattle.script.proofs.Splitting.{fields-fit}
 use Rattle.script.proofs.read.call_of.Statement.{statement}
 use Rattle.script.proofs.read.call_of.Tie as tie
 
-field-requires : tie.Need-field-requires
-field-requires c κs = search needs
-
-number-field-requires : tie.Need-number-field-requires
-number-field-requires c κs = search needs
-
-enum-known-time : tie.Need-enum-known-time
-enum-known-time c = search needs
-
-enum-told : tie.Need-enum-told
-enum-told c = search needs
-
 returns : tie.Need-returns
 returns c =
     let timed = c .before .before in
     call-bad _ (no-time _ (rw (timed .before .field .ensures) at (number-bad _ _ (timed .number-field .ensures) (c .enum-told .given .1))))
-
-field-requires-2 : tie.Need-field-requires-2
-field-requires-2 c κs = search needs
-
-number-field-requires-2 : tie.Need-number-field-requires-2
-number-field-requires-2 c κs = search needs
-
-enum-known-bare : tie.Need-enum-known-bare
-enum-known-bare c = search needs
-
-enum-told-2 : tie.Need-enum-told-2
-enum-told-2 c = search needs
 
 returns-2 : tie.Need-returns-2
 returns-2 c =
     let counted = c .before .before in
     call-bad _ (no-bare _ (rw (counted .before .field2 .ensures) at (number-bad _ _ (counted .number-field2 .ensures) (c .enum-told2 .given .1))))
 
-field-requires-3 : tie.Need-field-requires-3
-field-requires-3 c κs = search needs
-
 bytes-field-requires : tie.Need-bytes-field-requires
 bytes-field-requires c κs =
     let start = c .before .before .before .before .before .before .before .before .before .before .before .before .before .before in
     omega (arith, ap length (c .before .field3 .ensures), fields-fit _ _ (start .pre .0), start .pre .1)
 
-enum-known-key : tie.Need-enum-known-key
-enum-known-key c = search needs
-
-enum-told-3 : tie.Need-enum-told-3
-enum-told-3 c = search needs
-
-same-length : tie.Need-same-length
-same-length c = search needs
-
 returns-3 : tie.Need-returns-3
 returns-3 c =
     let decoded = c .before .before .before .before in
     call-bad _ (no-key _ (rw (decoded .before .before .field3 .ensures) at (decoded .bytes-field .ensures .bad (c .enum-told3 .given .1))))
-
-field-requires-4 : tie.Need-field-requires-4
-field-requires-4 c κs = search needs
 
 bytes-field-requires-2 : tie.Need-bytes-field-requires-2
 bytes-field-requires-2 c κs =
@@ -80,22 +41,10 @@ bytes-field-requires-2 c κs =
       start .pre .1,
     )
 
-enum-known-payload : tie.Need-enum-known-payload
-enum-known-payload c = search needs
-
-enum-told-4 : tie.Need-enum-told-4
-enum-told-4 c = search needs
-
-same-length-2 : tie.Need-same-length-2
-same-length-2 c = search needs
-
 returns-4 : tie.Need-returns-4
 returns-4 c =
     let decoded = c .before .before .before .before in
     call-bad _ (no-payload _ (rw (decoded .before .before .field4 .ensures) at (decoded .bytes-field2 .ensures .bad (c .enum-told4 .given .1))))
-
-same-length-3 : tie.Need-same-length-3
-same-length-3 c = search needs
 
 returns-5 : tie.Need-returns-5
 returns-5 c =
@@ -114,27 +63,27 @@ pub call-of-spec : {M : Type 1} → statement M
 call-of-spec =
     tie.close
     (tie.spec
-    field-requires
-    number-field-requires
-    enum-known-time
-    enum-told
+    (λ c κs. search needs)
+    (λ c κs. search needs)
+    (λ c. search needs)
+    (λ c. search needs)
     returns
-    field-requires-2
-    number-field-requires-2
-    enum-known-bare
-    enum-told-2
+    (λ c κs. search needs)
+    (λ c κs. search needs)
+    (λ c. search needs)
+    (λ c. search needs)
     returns-2
-    field-requires-3
+    (λ c κs. search needs)
     bytes-field-requires
-    enum-known-key
-    enum-told-3
-    same-length
+    (λ c. search needs)
+    (λ c. search needs)
+    (λ c. search needs)
     returns-3
-    field-requires-4
+    (λ c κs. search needs)
     bytes-field-requires-2
-    enum-known-payload
-    enum-told-4
-    same-length-2
+    (λ c. search needs)
+    (λ c. search needs)
+    (λ c. search needs)
     returns-4
-    same-length-3
+    (λ c. search needs)
     returns-5)
