@@ -14,14 +14,13 @@ use types.Kit.{Given}
 use denote.RattleType.{RattleType, flat}
 use denote.Laws.{Is, Tells, Lawful, Spells, valss, Tellss, Ises, Are, Lawfuls}
 use denote.Plain.{uint-vals, uint-tells, uint-lawful, bool-vals, bool-tells, bool-lawful}
-use denote.Builtin.{u8, u64, usize, bool}
+use denote.Builtin.{u8, u64, bool}
 use denote.Ref.{MutRef, ptr-vals, mut-tells, mut-lawful}
 use denote.Slice.{MutSlice, ShrSlice, slice-vals, mut-slice-tells, shr-slice-tells, mut-slice-lawful, shr-slice-lawful}
-use denote.Signature.{Signature, typeAt, typesAt}
+use denote.Signature.{Signature, typesAt}
 use denote.Steps.{said}
 use denote.Struct.Declared.{Declared, row}
 use denote.Struct.Laws as LL
-use denote.Triple.Bound.{Bound}
 use denote.Triple.Entry.{Args, Vals, Res, onEntry}
 use denote.Triple.Statement.{Contract}
 use denote.Triple.Clauses.{Clauses, Ended, Lasts, atExit, lasts, ensured, closing}
@@ -119,16 +118,16 @@ module _ {M : Type 1} (𝓤 : URA M) (H : Heap 𝓤) (A : Atoms 𝓤) (T : Ended
 -- What a callee ensures, with R, is what its caller ensures: each last value gives another.
 module _ {M : Type 1} (𝓤 : URA M) (H : Heap 𝓤) (A : Atoms 𝓤) (F G : Ended) (c : Clauses 𝓤 F) (d : Clauses 𝓤 G) (y : Met 𝓤 H A F c .Ghost) (x : Met 𝓤 H A G d .Ghost)
     (r : Res (F .signature) (y .0 .0)) (u : Res (G .signature) (x .0 .0)) where
-  abbrev own-lasts : Lasts F (y .0 .0) (y .0 .3) → SProp 𝓤
+  abbrev pub own-lasts : Lasts F (y .0 .0) (y .0 .3) → SProp 𝓤
   own-lasts w = sem 𝓤 H A (lasts F (y .0 .0) (y .0 .3) w)
 
-  abbrev its-lasts : Lasts G (x .0 .0) (x .0 .3) → SProp 𝓤
+  abbrev pub its-lasts : Lasts G (x .0 .0) (x .0 .3) → SProp 𝓤
   its-lasts z = sem 𝓤 H A (lasts G (x .0 .0) (x .0 .3) z)
 
-  abbrev own-ensures : Lasts F (y .0 .0) (y .0 .3) → SProp 𝓤
+  abbrev pub own-ensures : Lasts F (y .0 .0) (y .0 .3) → SProp 𝓤
   own-ensures w = c (y .0 .0) (y .0 .3) .ensures (y .1) r (atExit F (y .0 .0) (y .0 .3) w)
 
-  abbrev its-ensures : Lasts G (x .0 .0) (x .0 .3) → SProp 𝓤
+  abbrev pub its-ensures : Lasts G (x .0 .0) (x .0 .3) → SProp 𝓤
   its-ensures z = d (x .0 .0) (x .0 .3) .ensures (x .1) u (atExit G (x .0 .0) (x .0 .3) z)
 
   pub carried : (R : SProp 𝓤) (last : Lasts G (x .0 .0) (x .0 .3) → Lasts F (y .0 .0) (y .0 .3))
