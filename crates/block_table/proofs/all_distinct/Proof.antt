@@ -36,15 +36,5 @@ pub all-distinct-spec : {M : Type 1} → statement M
 all-distinct-spec =
     tie.close
     (tie.spec
-    Inv-loop
-    μ-loop
-    (λ c. (search needs, (search needs, refl)))
-    (λ c. search needs)
-    (λ c. search needs)
-    (λ c. search needs)
-    (λ c κs. search needs)
-    two-alike
-    (λ c. search needs)
-    (λ c. search needs)
-    turns
-    all-apart)
+    Inv-loop μ-loop (λ c. (search needs, (search needs, refl))) (λ c. search needs) (λ c. search needs) (λ c. search needs) (λ c κs. search needs)
+    two-alike (λ c. search needs) (λ c. search needs) turns all-apart)

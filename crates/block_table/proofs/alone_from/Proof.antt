@@ -43,14 +43,5 @@ pub alone-from-spec : {M : Type 1} → statement M
 alone-from-spec =
     tie.close
     (tie.spec
-    Inv-loop
-    μ-loop
-    (λ c. (search needs, refl))
-    (λ c. search needs)
-    (λ c. search needs)
-    (λ c κs. search needs)
-    clash-found
-    (λ c. search needs)
-    (λ c. search needs)
-    turns
-    no-clash)
+    Inv-loop μ-loop (λ c. (search needs, refl)) (λ c. search needs) (λ c. search needs) (λ c κs. search needs) clash-found (λ c. search needs)
+    (λ c. search needs) turns no-clash)

@@ -25,12 +25,4 @@ pub make-spec : {M : Type 1} → statement M
 make-spec =
     tie.close
     (tie.spec
-    returns
-    (λ c κs. search needs)
-    returns-2
-    returns-3
-    (λ c. search needs)
-    returns-4
-    (λ c. search needs)
-    (λ c. search needs)
-    returns-5)
+    returns (λ c κs. search needs) returns-2 returns-3 (λ c. search needs) returns-4 (λ c. search needs) (λ c. search needs) returns-5)

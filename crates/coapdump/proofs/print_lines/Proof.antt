@@ -45,19 +45,7 @@ pub print-lines-spec : {M : Type 1} → statement M
 print-lines-spec =
     tie.close
     (tie.spec
-    Inv-loop
-    μ-loop
-    (λ c κs. search needs)
-    loop-holds
-    (λ c κs. search needs)
-    (λ c. let line = c .before .before .loop .inv .2 .up-to in omega arith)
-    (λ c. let line = c .before .before .loop .inv .2 .up-to in omega arith)
-    (λ c. let line = c .before .before .loop .inv .2 .up-to in omega arith)
-    line-fits
-    (λ c. search needs)
-    (λ c κs. search needs)
-    loop-less
-    loop-again
-    (λ c. search needs)
-    (λ c. search needs)
+    Inv-loop μ-loop (λ c κs. search needs) loop-holds (λ c κs. search needs) (λ c. let line = c .before .before .loop .inv .2 .up-to in omega arith)
+    (λ c. let line = c .before .before .loop .inv .2 .up-to in omega arith) (λ c. let line = c .before .before .loop .inv .2 .up-to in omega arith)
+    line-fits (λ c. search needs) (λ c κs. search needs) loop-less loop-again (λ c. search needs) (λ c. search needs)
     (λ c. going-done (c .before .loop .inv .2) (c .loop-test .left)))

@@ -93,27 +93,6 @@ pub run-spec : {M : Type 1} → statement M
 run-spec =
     tie.close
     (tie.spec
-    Inv-loop
-    μ-loop
-    (λ c. search needs)
-    (λ c κs. search needs)
-    (λ c κs. search needs)
-    (λ c κs. search needs)
-    loop-holds
-    (λ c. search needs)
-    (λ c. search needs)
-    (λ c. search needs)
-    lines-fit
-    rest-there
-    room-left
-    turns-there
-    (λ c. c .turns-left2 .ensures .1)
-    loop-again
-    (λ c. search needs)
-    (λ c. search needs)
-    held-there
-    last-fits
-    same-text
-    same-bytes
-    same-out
-    (λ c. search needs))
+    Inv-loop μ-loop (λ c. search needs) (λ c κs. search needs) (λ c κs. search needs) (λ c κs. search needs) loop-holds (λ c. search needs)
+    (λ c. search needs) (λ c. search needs) lines-fit rest-there room-left turns-there (λ c. c .turns-left2 .ensures .1) loop-again
+    (λ c. search needs) (λ c. search needs) held-there last-fits same-text same-bytes same-out (λ c. search needs))

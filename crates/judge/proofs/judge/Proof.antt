@@ -39,11 +39,5 @@ pub judge-spec : {M : Type 1} → statement M
 judge-spec =
     tie.close
     (tie.spec
-    (λ c κs. search needs)
-    config-refused
-    memories-in-range
-    memories-refused
-    (λ c κs. search needs)
-    message-refused
-    (λ c κs. search needs)
+    (λ c κs. search needs) config-refused memories-in-range memories-refused (λ c κs. search needs) message-refused (λ c κs. search needs)
     by-the-place)

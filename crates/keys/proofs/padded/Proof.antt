@@ -34,12 +34,5 @@ pub padded-spec : {M : Type 1} → statement M
 padded-spec =
     tie.close
     (tie.spec
-    Inv-loop
-    μ-loop
-    (λ c. (search needs, (search needs, refl)))
-    (λ c. search needs)
-    (λ c. search needs)
-    (λ c. search needs)
-    (λ c. search needs)
-    turns
+    Inv-loop μ-loop (λ c. (search needs, (search needs, refl))) (λ c. search needs) (λ c. search needs) (λ c. search needs) (λ c. search needs) turns
     returns)

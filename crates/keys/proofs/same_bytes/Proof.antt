@@ -35,13 +35,5 @@ pub same-bytes-spec : {M : Type 1} → statement M
 same-bytes-spec =
     tie.close
     (tie.spec
-    Inv-loop
-    μ-loop
-    lengths-differ
-    (λ c. (search needs, (search needs, refl)))
-    (λ c. search needs)
-    (λ c. search needs)
-    (λ c. search needs)
-    (λ c. search needs)
-    turns
-    compared)
+    Inv-loop μ-loop lengths-differ (λ c. (search needs, (search needs, refl))) (λ c. search needs) (λ c. search needs) (λ c. search needs)
+    (λ c. search needs) turns compared)

@@ -30,13 +30,5 @@ pub zero-bytes-spec : {M : Type 1} → statement M
 zero-bytes-spec =
     tie.close
     (tie.spec
-    Inv-loop
-    μ-loop
-    (λ c. (search needs, (search needs, (search needs, omega arith))))
-    (λ c. search needs)
-    (λ c κs. search needs)
-    (λ c. search needs)
-    (λ c. search needs)
-    (λ c. search needs)
-    turns
-    returns)
+    Inv-loop μ-loop (λ c. (search needs, (search needs, (search needs, omega arith)))) (λ c. search needs) (λ c κs. search needs) (λ c. search needs)
+    (λ c. search needs) (λ c. search needs) turns returns)

@@ -63,10 +63,4 @@ pub to-bytes-spec : {M : Type 1} → statement M
 to-bytes-spec =
     tie.close
     (tie.spec
-    (λ c κs. search needs)
-    head-fits
-    options-fit
-    payload-fits
-    (λ c. search needs)
-    returns
-    returns-2)
+    (λ c κs. search needs) head-fits options-fit payload-fits (λ c. search needs) returns returns-2)

@@ -30,13 +30,5 @@ pub negotiate-block-size-if-necessary-spec : {M : Type 1} → statement M
 negotiate-block-size-if-necessary-spec =
     tie.close
     (tie.spec
-    returns
-    returns-2
-    (λ c. search needs)
-    returns-3
-    (λ c κs. search needs)
-    (λ c κs. search needs)
-    (λ c. search needs)
-    (λ c κs. search needs)
-    returns-4
-    returns-5)
+    returns returns-2 (λ c. search needs) returns-3 (λ c κs. search needs) (λ c κs. search needs) (λ c. search needs) (λ c κs. search needs)
+    returns-4 returns-5)

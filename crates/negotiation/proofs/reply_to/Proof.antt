@@ -34,9 +34,4 @@ pub reply-to-spec : {M : Type 1} → statement M
 reply-to-spec =
     tie.close
     (tie.spec
-    (λ c κs. search needs)
-    (λ c κs. search needs)
-    reply-at-requires
-    returns
-    reply-at-requires-2
-    returns-2)
+    (λ c κs. search needs) (λ c κs. search needs) reply-at-requires returns reply-at-requires-2 returns-2)

@@ -46,16 +46,5 @@ pub find-free-spec : {M : Type 1} → statement M
 find-free-spec =
     tie.close
     (tie.spec
-    Inv-loop
-    μ-loop
-    (λ c. (search needs, (search needs, omega arith)))
-    (λ c. search needs)
-    (λ c. search needs)
-    (λ c. search needs)
-    (λ c. search needs)
-    (λ c κs. search needs)
-    found
-    (λ c. search needs)
-    (λ c. search needs)
-    turns
-    none)
+    Inv-loop μ-loop (λ c. (search needs, (search needs, omega arith))) (λ c. search needs) (λ c. search needs) (λ c. search needs)
+    (λ c. search needs) (λ c κs. search needs) found (λ c. search needs) (λ c. search needs) turns none)

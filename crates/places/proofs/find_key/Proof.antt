@@ -40,14 +40,5 @@ pub find-key-spec : {M : Type 1} → statement M
 find-key-spec =
     tie.close
     (tie.spec
-    Inv-loop
-    μ-loop
-    (λ c. (search needs, (search needs, omega arith)))
-    (λ c. search needs)
-    (λ c. search needs)
-    (λ c κs. search needs)
-    found
-    (λ c. search needs)
-    (λ c. search needs)
-    turns
-    none)
+    Inv-loop μ-loop (λ c. (search needs, (search needs, omega arith))) (λ c. search needs) (λ c. search needs) (λ c κs. search needs) found
+    (λ c. search needs) (λ c. search needs) turns none)

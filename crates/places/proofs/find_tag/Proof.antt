@@ -39,13 +39,5 @@ pub find-tag-spec : {M : Type 1} → statement M
 find-tag-spec =
     tie.close
     (tie.spec
-    Inv-loop
-    μ-loop
-    (λ c. (search needs, (search needs, omega arith)))
-    (λ c. search needs)
-    (λ c. search needs)
-    found
-    (λ c. search needs)
-    (λ c. search needs)
-    turns
-    none)
+    Inv-loop μ-loop (λ c. (search needs, (search needs, omega arith))) (λ c. search needs) (λ c. search needs) found (λ c. search needs)
+    (λ c. search needs) turns none)

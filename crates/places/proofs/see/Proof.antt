@@ -27,8 +27,6 @@ pub see-spec : {M : Type 1} → statement M
 see-spec =
     tie.close
     (tie.spec
-    (λ c κs. search needs)
-    (λ c κs. search needs)
-    (λ c κs. search needs)
+    (λ c κs. search needs) (λ c κs. search needs) (λ c κs. search needs)
     (λ c. (next (c .before .before) _ (c .if1 .taken), long (c .before .before)))
     (λ c. (next (c .before .before) _ (c .if1 .left), long (c .before .before))))

@@ -114,29 +114,7 @@ pub run-spec : {M : Type 1} → statement M
 run-spec =
     tie.close
     (tie.spec
-    Inv-loop
-    μ-loop
-    (λ c κs. search needs)
-    (λ c κs. search needs)
-    (λ c κs. search needs)
-    loop-holds
-    (λ c. search needs)
-    (λ c. search needs)
-    (λ c. search needs)
-    run-lines-requires
-    keep-requires
-    read-on-requires-2
-    turns-left-requires-2
-    loop-less
-    loop-again
-    (λ c. search needs)
-    (λ c. search needs)
-    part-run-last-end
-    run-last-requires
-    print-requires
-    same-length
-    same-length-2
-    same-length-3
-    same-length-4
-    same-length-5
+    Inv-loop μ-loop (λ c κs. search needs) (λ c κs. search needs) (λ c κs. search needs) loop-holds (λ c. search needs) (λ c. search needs)
+    (λ c. search needs) run-lines-requires keep-requires read-on-requires-2 turns-left-requires-2 loop-less loop-again (λ c. search needs)
+    (λ c. search needs) part-run-last-end run-last-requires print-requires same-length same-length-2 same-length-3 same-length-4 same-length-5
     (λ c. search needs))

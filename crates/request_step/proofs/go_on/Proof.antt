@@ -38,15 +38,5 @@ pub go-on-spec : {M : Type 1} → statement M
 go-on-spec =
     tie.close
     (tie.spec
-    (λ c. search needs)
-    (λ c κs. search needs)
-    (λ c. search needs)
-    with-assembled-requires
-    (λ c κs. search needs)
-    (λ c. search needs)
-    body-ends
-    (λ c κs. search needs)
-    (λ c κs. search needs)
-    returns
-    returns-2
-    returns-3)
+    (λ c. search needs) (λ c κs. search needs) (λ c. search needs) with-assembled-requires (λ c κs. search needs) (λ c. search needs) body-ends
+    (λ c κs. search needs) (λ c κs. search needs) returns returns-2 returns-3)

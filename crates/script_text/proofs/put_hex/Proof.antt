@@ -22,18 +22,7 @@ pub put-hex-spec : {M : Type 1} → statement M
 put-hex-spec =
     tie.close
     (tie.spec
-    Inv-loop
-    μ-loop
-    (λ c. hexed-start _ _ _ (c .before .before .pre))
-    (λ c. search needs)
-    (λ c κs. omega (arith, c .shared-slice-known2 .given (c .before .before .loop .i)))
-    (λ c. search needs)
-    (λ c κs. search needs)
-    (λ c. search needs)
-    (λ c. simp length-set (omega arith))
-    (λ c. search needs)
-    (λ c. search needs)
-    (λ c. search needs)
-    turn
-    (λ c. search needs)
+    Inv-loop μ-loop (λ c. hexed-start _ _ _ (c .before .before .pre)) (λ c. search needs)
+    (λ c κs. omega (arith, c .shared-slice-known2 .given (c .before .before .loop .i))) (λ c. search needs) (λ c κs. search needs)
+    (λ c. search needs) (λ c. simp length-set (omega arith)) (λ c. search needs) (λ c. search needs) (λ c. search needs) turn (λ c. search needs)
     (λ c. hexed-done _ _ _ _ _ _ (c .before .loop .inv) (c .loop-test .left)))

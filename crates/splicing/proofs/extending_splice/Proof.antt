@@ -25,16 +25,5 @@ pub extending-splice-spec : {M : Type 1} → statement M
 extending-splice-spec =
     tie.close
     (tie.spec
-    (λ c. search needs)
-    returns
-    returns-2
-    (λ c. search needs)
-    (λ c κs. search needs)
-    (λ c. search needs)
-    returns-3
-    (λ c. search needs)
-    returns-4
-    (λ c κs. search needs)
-    (λ c. search needs)
-    (λ c. search needs)
-    returns-5)
+    (λ c. search needs) returns returns-2 (λ c. search needs) (λ c κs. search needs) (λ c. search needs) returns-3 (λ c. search needs) returns-4
+    (λ c κs. search needs) (λ c. search needs) (λ c. search needs) returns-5)

@@ -32,18 +32,5 @@ pub put-entries-spec : {M : Type 1} → statement M
 put-entries-spec =
     tie.close
     (tie.spec
-    Inv-loop
-    μ-loop
-    (λ c. (search needs, shown-start _ _ _ (search needs)))
-    (λ c. search needs)
-    (λ c. search needs)
-    (λ c κs. search needs)
-    (λ c κs. search needs)
-    (λ c. search needs)
-    (λ c. search needs)
-    turn
-    (λ c κs. search needs)
-    (λ c. search needs)
-    none
-    (λ c. search needs)
-    some)
+    Inv-loop μ-loop (λ c. (search needs, shown-start _ _ _ (search needs))) (λ c. search needs) (λ c. search needs) (λ c κs. search needs)
+    (λ c κs. search needs) (λ c. search needs) (λ c. search needs) turn (λ c κs. search needs) (λ c. search needs) none (λ c. search needs) some)

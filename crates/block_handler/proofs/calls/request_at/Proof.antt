@@ -73,14 +73,5 @@ pub request-at-spec : {M : Type 1} → statement M
 request-at-spec =
     tie.close
     (tie.spec
-    (λ c κs. search needs)
-    mul-home
-    mul-away
-    add-end
-    (λ c. search needs)
-    (λ c. search needs)
-    part-ends
-    step-request-requires
-    (λ c κs. search needs)
-    (λ c. search needs)
-    returns)
+    (λ c κs. search needs) mul-home mul-away add-end (λ c. search needs) (λ c. search needs) part-ends step-request-requires (λ c κs. search needs)
+    (λ c. search needs) returns)

@@ -57,13 +57,5 @@ pub response-at-spec : {M : Type 1} → statement M
 response-at-spec =
     tie.close
     (tie.spec
-    (λ c κs. search needs)
-    mul-from
-    add-end
-    (λ c. search needs)
-    (λ c. search needs)
-    part-ends
-    step-response-requires
-    (λ c κs. search needs)
-    (λ c. search needs)
-    returns)
+    (λ c κs. search needs) mul-from add-end (λ c. search needs) (λ c. search needs) part-ends step-response-requires (λ c κs. search needs)
+    (λ c. search needs) returns)

@@ -25,10 +25,4 @@ pub response-spec : {M : Type 1} → statement M
 response-spec =
     tie.close
     (tie.spec
-    (λ c κs. search needs)
-    (λ c κs. search needs)
-    returns
-    step-response-requires
-    (λ c κs. search needs)
-    (λ c. search needs)
-    returns-2)
+    (λ c κs. search needs) (λ c κs. search needs) returns step-response-requires (λ c κs. search needs) (λ c. search needs) returns-2)

@@ -40,17 +40,5 @@ pub extend-spec : {M : Type 1} → statement M
 extend-spec =
     tie.close
     (tie.spec
-    first-there
-    (λ c κs. search needs)
-    (λ c. search needs)
-    returns
-    high-there
-    (λ c κs. search needs)
-    (λ c. search needs)
-    (λ c. search needs)
-    low-there
-    (λ c κs. search needs)
-    (λ c. search needs)
-    (λ c. search needs)
-    returns-2
-    returns-3)
+    first-there (λ c κs. search needs) (λ c. search needs) returns high-there (λ c κs. search needs) (λ c. search needs) (λ c. search needs)
+    low-there (λ c κs. search needs) (λ c. search needs) (λ c. search needs) returns-2 returns-3)

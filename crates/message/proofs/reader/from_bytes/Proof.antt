@@ -61,17 +61,5 @@ pub from-bytes-spec : {M : Type 1} → statement M
 from-bytes-spec =
     tie.close
     (tie.spec
-    returns
-    (λ c. search needs)
-    (λ c κs. search needs)
-    (λ c. search needs)
-    (λ c. search needs)
-    (λ c κs. search needs)
-    returns-2
-    (λ c. search needs)
-    token-inside
-    (λ c. search needs)
-    (λ c. search needs)
-    returns-3
-    parts-there
-    returns-4)
+    returns (λ c. search needs) (λ c κs. search needs) (λ c. search needs) (λ c. search needs) (λ c κs. search needs) returns-2 (λ c. search needs)
+    token-inside (λ c. search needs) (λ c. search needs) returns-3 parts-there returns-4)

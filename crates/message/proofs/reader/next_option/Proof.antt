@@ -49,16 +49,5 @@ pub next-option-spec : {M : Type 1} → statement M
 next-option-spec =
     tie.close
     (tie.spec
-    returns
-    (λ c. search needs)
-    (λ c. search needs)
-    (λ c. search needs)
-    (λ c κs. search needs)
-    (λ c. search needs)
-    from-fits
-    to-fits
-    (λ c. search needs)
-    (λ c. search needs)
-    returns-2
-    returns-3
-    returns-4)
+    returns (λ c. search needs) (λ c. search needs) (λ c. search needs) (λ c κs. search needs) (λ c. search needs) from-fits to-fits
+    (λ c. search needs) (λ c. search needs) returns-2 returns-3 returns-4)

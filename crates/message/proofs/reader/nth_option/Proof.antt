@@ -62,14 +62,5 @@ pub nth-option-spec : {M : Type 1} → statement M
 nth-option-spec =
     tie.close
     (tie.spec
-    Inv-loop
-    μ-loop
-    (λ c. refl)
-    (λ c κs. search needs)
-    (λ c. search needs)
-    returns
-    (λ c κs. search needs)
-    returns-2
-    (λ c κs. search needs)
-    loop-less
+    Inv-loop μ-loop (λ c. refl) (λ c κs. search needs) (λ c. search needs) returns (λ c κs. search needs) returns-2 (λ c κs. search needs) loop-less
     loop-again)

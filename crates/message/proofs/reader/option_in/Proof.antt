@@ -61,19 +61,5 @@ pub option-in-spec : {M : Type 1} → statement M
 option-in-spec =
     tie.close
     (tie.spec
-    returns
-    returns-2
-    (λ c κs. search needs)
-    (λ c. search needs)
-    (λ c κs. search needs)
-    (λ c. search needs)
-    returns-3
-    (λ c κs. search needs)
-    (λ c. search needs)
-    returns-4
-    (λ c κs. search needs)
-    (λ c. search needs)
-    returns-5
-    (λ c. search needs)
-    (λ c. search needs)
-    returns-6)
+    returns returns-2 (λ c κs. search needs) (λ c. search needs) (λ c κs. search needs) (λ c. search needs) returns-3 (λ c κs. search needs)
+    (λ c. search needs) returns-4 (λ c κs. search needs) (λ c. search needs) returns-5 (λ c. search needs) (λ c. search needs) returns-6)

@@ -60,18 +60,5 @@ pub options-end-spec : {M : Type 1} → statement M
 options-end-spec =
     tie.close
     (tie.spec
-    Inv-loop
-    μ-loop
-    (λ c. (c .before .pre, refl))
-    (λ c. c .loop .inv .0)
-    (λ c. c .loop .inv .0)
-    (λ c. search needs)
-    (λ c κs. search needs)
-    (λ c. search needs)
-    left-there
-    loop-less
-    loop-again
-    (λ c. search needs)
-    returns
-    (λ c. search needs)
-    returns-2)
+    Inv-loop μ-loop (λ c. (c .before .pre, refl)) (λ c. c .loop .inv .0) (λ c. c .loop .inv .0) (λ c. search needs) (λ c κs. search needs)
+    (λ c. search needs) left-there loop-less loop-again (λ c. search needs) returns (λ c. search needs) returns-2)

@@ -71,21 +71,9 @@ pub put-more-spec : {M : Type 1} → statement M
 put-more-spec =
     tie.close
     (tie.spec
-    Inv-loop
-    μ-loop
-    loop-holds
-    (λ c κs. search needs)
-    (λ c. search needs)
-    comma-fits
+    Inv-loop μ-loop loop-holds (λ c κs. search needs) (λ c. search needs) comma-fits
     (λ c. let b = bounds (c .before .before .before .before .before .before) in omega arith)
     (λ c. let b = bounds (c .before .before .before .before .before .before) in omega arith)
-    (λ c. let b = bounds (c .before .before .before .before .before .before) in omega arith)
-    option-fits
-    (λ c. let b = bounds (c .before .before .before .before .before .before .before .before .before .before) in omega arith)
-    loop-again
-    (λ c. search needs)
-    (λ c. search needs)
-    returns
-    (λ c. search needs)
-    (λ c. search needs)
-    returns-2)
+    (λ c. let b = bounds (c .before .before .before .before .before .before) in omega arith) option-fits
+    (λ c. let b = bounds (c .before .before .before .before .before .before .before .before .before .before) in omega arith) loop-again
+    (λ c. search needs) (λ c. search needs) returns (λ c. search needs) (λ c. search needs) returns-2)

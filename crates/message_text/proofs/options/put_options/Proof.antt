@@ -70,18 +70,6 @@ pub put-options-spec : {M : Type 1} → statement M
 put-options-spec =
     tie.close
     (tie.spec
-    (λ c κs. search needs)
-    (λ c. search needs)
-    (λ c. let b = bounds (c .before .before) in omega arith)
-    (λ c. let b = bounds (c .before .before) in omega arith)
-    (λ c. let b = bounds (c .before .before) in omega arith)
-    option-fits
-    more-fits
-    (λ c. search needs)
-    (λ c κs. search needs)
-    (λ c. search needs)
-    (λ c. search needs)
-    returns
-    (λ c. search needs)
-    returns-2
-    returns-3)
+    (λ c κs. search needs) (λ c. search needs) (λ c. let b = bounds (c .before .before) in omega arith)
+    (λ c. let b = bounds (c .before .before) in omega arith) (λ c. let b = bounds (c .before .before) in omega arith) option-fits more-fits
+    (λ c. search needs) (λ c κs. search needs) (λ c. search needs) (λ c. search needs) returns (λ c. search needs) returns-2 returns-3)

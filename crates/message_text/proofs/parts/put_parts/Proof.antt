@@ -86,11 +86,4 @@ pub put-parts-spec : {M : Type 1} → statement M
 put-parts-spec =
     tie.close
     (tie.spec
-    (λ c κs. search needs)
-    token-fits
-    options-fit
-    space-fits
-    (λ c κs. search needs)
-    payload-fits
-    (λ c. search needs)
-    returns)
+    (λ c κs. search needs) token-fits options-fit space-fits (λ c κs. search needs) payload-fits (λ c. search needs) returns)

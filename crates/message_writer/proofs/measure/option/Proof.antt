@@ -32,16 +32,7 @@ pub option-spec : {M : Type 1} → statement M
 option-spec =
     tie.close
     (tie.spec
-    (λ c. small (c .before) (λ f. omega (arith, f .rising)))
-    (λ c. small (c .before .before) (λ f. omega (arith, f .low)))
+    (λ c. small (c .before) (λ f. omega (arith, f .rising))) (λ c. small (c .before .before) (λ f. omega (arith, f .low)))
     (λ c. small (c .before .before .before) (λ f. omega (arith, f .short)))
-    (λ c. small (c .before .before .before .before) (λ f. omega (arith, f .there)))
-    (λ c κs. search needs)
-    (λ c. search needs)
-    (λ c κs. search needs)
-    (λ c. search needs)
-    (λ c. search needs)
-    returns-5
-    (λ c. search needs)
-    (λ c. search needs)
-    returns-6)
+    (λ c. small (c .before .before .before .before) (λ f. omega (arith, f .there))) (λ c κs. search needs) (λ c. search needs) (λ c κs. search needs)
+    (λ c. search needs) (λ c. search needs) returns-5 (λ c. search needs) (λ c. search needs) returns-6)

@@ -54,15 +54,5 @@ pub takes-spec : {M : Type 1} → statement M
 takes-spec =
     tie.close
     (tie.spec
-    returns
-    returns-2
-    (λ c κs. search needs)
-    returns-3
-    (λ c. search needs)
-    returns-4
-    (λ c κs. search needs)
-    (λ c. search needs)
-    (λ c. search needs)
-    returns-5
-    (λ c κs. search needs)
-    returns-6)
+    returns returns-2 (λ c κs. search needs) returns-3 (λ c. search needs) returns-4 (λ c κs. search needs) (λ c. search needs) (λ c. search needs)
+    returns-5 (λ c κs. search needs) returns-6)

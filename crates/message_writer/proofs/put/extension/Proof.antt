@@ -29,14 +29,5 @@ pub extension-spec : {M : Type 1} → statement M
 extension-spec =
     tie.close
     (tie.spec
-    returns
-    (λ c. search needs)
-    one-fits
-    (λ c. search needs)
-    returns-2
-    (λ c. search needs)
-    (λ c. search needs)
-    (λ c. search needs)
-    two-fit
-    (λ c. search needs)
-    returns-3)
+    returns (λ c. search needs) one-fits (λ c. search needs) returns-2 (λ c. search needs) (λ c. search needs) (λ c. search needs) two-fit
+    (λ c. search needs) returns-3)

@@ -36,12 +36,5 @@ pub option-head-spec : {M : Type 1} → statement M
 option-head-spec =
     tie.close
     (tie.spec
-    (λ c κs. search needs)
-    (λ c. search needs)
-    (λ c κs. search needs)
-    (λ c. search needs)
-    first-fits
-    delta-fits
-    length-fits
-    (λ c. search needs)
+    (λ c κs. search needs) (λ c. search needs) (λ c κs. search needs) (λ c. search needs) first-fits delta-fits length-fits (λ c. search needs)
     returns)

@@ -51,23 +51,8 @@ pub options-spec : {M : Type 1} → statement M
 options-spec =
     tie.close
     (tie.spec
-    Inv-loop
-    μ-loop
-    loop-holds
-    (λ c. search needs)
-    (λ c. search needs)
-    (λ c κs. search needs)
-    (λ c. search needs)
-    length-there
-    (λ c κs. search needs)
-    (λ c. let f = turn-fits (turn c) in omega arith)
-    (λ c. let f = turn-fits (turn (c .before)) in omega arith)
-    (λ c. let f = turn-fits (turn (c .before)) in omega arith)
-    (λ c. let f = turn-fits (turn (c .before)) in omega arith)
-    (λ c. let f = turn-fits (turn (c .before)) in omega arith)
-    option-fits
-    (λ c. search needs)
-    (λ c. search needs)
-    loop-again
-    (λ c. omega arith)
+    Inv-loop μ-loop loop-holds (λ c. search needs) (λ c. search needs) (λ c κs. search needs) (λ c. search needs) length-there (λ c κs. search needs)
+    (λ c. let f = turn-fits (turn c) in omega arith) (λ c. let f = turn-fits (turn (c .before)) in omega arith)
+    (λ c. let f = turn-fits (turn (c .before)) in omega arith) (λ c. let f = turn-fits (turn (c .before)) in omega arith)
+    (λ c. let f = turn-fits (turn (c .before)) in omega arith) option-fits (λ c. search needs) (λ c. search needs) loop-again (λ c. omega arith)
     (λ c. ahead-done (c .before .loop .inv) (c .loop-test .left)))

@@ -34,17 +34,6 @@ pub serve-cached-response-spec : {M : Type 1} → statement M
 serve-cached-response-spec =
     tie.close
     (tie.spec
-    (λ c κs. search needs)
-    (λ c κs. search needs)
-    (λ c. search needs)
-    (λ c κs. search needs)
-    (λ c. search needs)
-    (λ c κs. search needs)
-    (λ c κs. search needs)
-    (λ c κs. search needs)
-    (λ c. search needs)
-    (λ c. omega (arith, within (c .before .before .before .before)))
-    (λ c. omega (arith, within (c .before .before .before .before)))
-    (λ c κs. search needs)
-    returns
-    returns-2)
+    (λ c κs. search needs) (λ c κs. search needs) (λ c. search needs) (λ c κs. search needs) (λ c. search needs) (λ c κs. search needs)
+    (λ c κs. search needs) (λ c κs. search needs) (λ c. search needs) (λ c. omega (arith, within (c .before .before .before .before)))
+    (λ c. omega (arith, within (c .before .before .before .before))) (λ c κs. search needs) returns returns-2)

@@ -35,11 +35,4 @@ pub run-last-spec : {M : Type 1} → statement M
 run-last-spec =
     tie.close
     (tie.spec
-    returns
-    (λ c κs. search needs)
-    run-any-requires
-    (λ c. search needs)
-    (λ c. search needs)
-    (λ c. search needs)
-    (λ c. search needs)
-    returns-2)
+    returns (λ c κs. search needs) run-any-requires (λ c. search needs) (λ c. search needs) (λ c. search needs) (λ c. search needs) returns-2)

@@ -89,22 +89,6 @@ pub run-lines-spec : {M : Type 1} → statement M
 run-lines-spec =
     tie.close
     (tie.spec
-    Inv-loop
-    μ-loop
-    (λ c κs. search needs)
-    loop-holds
-    (λ c κs. search needs)
-    sub-run-any
-    part-run-any-start
-    part-run-any-end
-    run-any-requires
-    flushed-requires
-    add-from
-    mark-from-requires-2
-    loop-less
-    loop-again
-    (λ c. search needs)
-    (λ c. search needs)
-    (λ c. search needs)
-    (λ c. search needs)
-    returns)
+    Inv-loop μ-loop (λ c κs. search needs) loop-holds (λ c κs. search needs) sub-run-any part-run-any-start part-run-any-end run-any-requires
+    flushed-requires add-from mark-from-requires-2 loop-less loop-again (λ c. search needs) (λ c. search needs) (λ c. search needs)
+    (λ c. search needs) returns)

@@ -43,14 +43,5 @@ pub run-script-spec : {M : Type 1} → statement M
 run-script-spec =
     tie.close
     (tie.spec
-    (λ c κs. search needs)
-    (λ c κs. search needs)
-    (λ c. search needs)
-    (λ c. search needs)
-    (λ c. search needs)
-    run-last-requires
-    (λ c. search needs)
-    (λ c. search needs)
-    (λ c. search needs)
-    same-length-4
-    returns)
+    (λ c κs. search needs) (λ c κs. search needs) (λ c. search needs) (λ c. search needs) (λ c. search needs) run-last-requires (λ c. search needs)
+    (λ c. search needs) (λ c. search needs) same-length-4 returns)

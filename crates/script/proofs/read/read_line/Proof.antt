@@ -55,19 +55,5 @@ pub read-line-spec : {M : Type 1} → statement M
 read-line-spec =
     tie.close
     (tie.spec
-    returns
-    (λ c. search needs)
-    returns-2
-    (λ c κs. search needs)
-    (λ c. search needs)
-    (λ c. search needs)
-    returns-3
-    (λ c. search needs)
-    request-of-requires
-    (λ c. search needs)
-    returns-4
-    (λ c. search needs)
-    response-of-requires
-    (λ c. search needs)
-    returns-5
-    returns-6)
+    returns (λ c. search needs) returns-2 (λ c κs. search needs) (λ c. search needs) (λ c. search needs) returns-3 (λ c. search needs)
+    request-of-requires (λ c. search needs) returns-4 (λ c. search needs) response-of-requires (λ c. search needs) returns-5 returns-6)
