@@ -74,7 +74,7 @@ struct block_handler_block {
 struct block_handler_state {
     struct block_handler_assembled assembled;
     struct block_handler_cached cached;
-    struct block_handler_block recorded; /* The Block2 value of the key's last request. */
+    struct block_handler_block recorded; /* The Block2 value that a request of the key recorded last. */
 };
 
 /* One entry: free (all zeros), or in use for its key, last touched at this time. */

@@ -11,7 +11,7 @@ size_t block_handler_find_and_free(
 struct request_numbers {
     uint64_t time;
     size_t bare;
-    bool block1, block2;
+    bool given1, given2;
 };
 struct response_numbers {
     uint64_t time;

@@ -11,13 +11,12 @@ use Rattle.block_state.specs.declared.ResponseNumbers.{ResponseNumbers}
 use Rattle.block_state.specs.Message.{request, response}
 use Rattle.block_state.specs.Contract.{asking, replying}
 use Rattle.block_state.specs.declared.Stepped.{Stepped}
-use Rattle.block_state.specs.State.{nothing}
 use Rattle.request_step.specs.declared.Asked.{Asked}
 use Rattle.request_step.specs.Step.{stepWith}
 use Rattle.keys.specs.declared.Key.{Key}
 use Rattle.keys.specs.Keys.{Name, stored}
 use Rattle.entries.specs.declared.Entry.{Entry}
-use Rattle.entries.specs.Entries.{inUse, swept}
+use Rattle.entries.specs.Entries.{inUse, startFrom, swept}
 use Rattle.block_table.specs.declared.Table.{Table}
 use Rattle.block_table.specs.Table.{sweep, tableWith}
 use Rattle.places.specs.declared.Sight.{Sight}
@@ -48,7 +47,7 @@ changed lifetime time t g = tableWith (g .clock) (cond (g .freed) (sweep lifetim
 
 -- The entry that a call on the key starts from, of the one at its place before the sweep.
 abbrev pub openedFrom : ℕ → ℕ → Key → Entry → Entry
-openedFrom lifetime time key e = cond (swept lifetime time e .used) (swept lifetime time e) (inUse key 0 nothing)
+openedFrom lifetime time key e = startFrom key (swept lifetime time e)
 
 -- The table seen so has place i for a call on the key of this name, stored so.
 abbrev pub Placed : Config → Sight → Key → ℕ → Lengths → ℕ → Name → Table → Type 0

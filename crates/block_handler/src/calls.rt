@@ -27,7 +27,7 @@ ghost use Rattle.judge.specs.Verdict.{lengths};
 ghost use Rattle.block_handler.specs.Call.{done, callAt};
 ghost use Rattle.block_handler.specs.Contract.{world, requestCall, responseCall, Meant, changed, openedFrom, Placed, changeTo, askedAt};
 
-// A refusal changes nothing: the entry that is seen is put back where it stood.
+// A refusal by checks 1 to 3 changes nothing: the entry that is seen is put back where it stood.
 fn refused(sight: Sight, n: u8) -> Change
     ensures { λ r. ⌜ ((c : Config) (lifetime time : ℕ) (k : Name) (t : Table) → Sees c time k t sight → changed lifetime time t r ≡ t) × (r .answer ≡ Answer.Refused n) × (r .at ≡ sight .at) ⌝ }
 {

@@ -51,10 +51,11 @@ kindNumber kind.Plain = 6
 kindNumber kind.Whole = 7
 kindNumber kind.First = 8
 
--- A response code: class (3 bits) and detail (5 bits). 0 where the response that goes out has its own.
+-- A response code: class (3 bits) and detail (5 bits).
 abbrev pub coapCode : ℕ → ℕ → ℕ
 coapCode class detail = class * 32 + detail
 
+-- 0 where the response that goes out has its own.
 abbrev pub ofItsOwn : ℕ
 ofItsOwn = 0
 

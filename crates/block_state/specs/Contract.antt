@@ -11,15 +11,15 @@ use Rattle.block_state.specs.Message.{Request, Response}
 
 abbrev pub asking : RequestNumbers → List ℕ → List ℕ → List ℕ → Request
 asking q option1 option2 payload =
-    record { bare = q .bare; block1 = optionOf (q .block1) option1; block2 = optionOf (q .block2) option2; payload = payload }
+    record { bare = q .bare; block1 = optionOf (q .given1) option1; block2 = optionOf (q .given2) option2; payload = payload }
 
 abbrev pub replying : ResponseNumbers → List ℕ → List ℕ → Response
 replying q head payload = record { bare = q .bare; own = q .own; head = head; payload = payload }
 
 -- The piece is of the configuration's size and holds what is assembled, and no place in a memory overflows.
-pub record Room (c : Config) (upAt downAt : ℕ) (s : BlockState) (n : ℕ) : Type 0 where
+pub record Room (c : Config) (atHome atAway : ℕ) (s : BlockState) (n : ℕ) : Type 0 where
   pub size : n ≡ c .upload
   pub small : n < 2 ^ 32
   pub holds : s .assembled .len ≤ n
-  pub home : upAt < 2 ^ 32
-  pub away : downAt < 2 ^ 32
+  pub home : atHome < 2 ^ 32
+  pub away : atAway < 2 ^ 32

@@ -49,11 +49,11 @@ pub struct Part {
 pub struct RequestNumbers {
     pub time: u64,
     pub bare: usize,
-    pub block1: bool,
-    pub block2: bool,
+    pub given1: bool,
+    pub given2: bool,
 }
 
-// A response's numbers: the same, and whether it has a Block2 option of its own.
+// A response's numbers: when it came, its length without the payload, and whether it has a Block2 option of its own.
 #[repr(C)]
 pub struct ResponseNumbers {
     pub time: u64,

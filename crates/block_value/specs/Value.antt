@@ -1,5 +1,5 @@
--- Document 01, "Block value": what make, size, read and write come to, on numbers and lists of bytes. Make, read and write take the configuration; they
--- are the same under each.
+-- Document 01, "Block value": what make, size, read and write come to, on numbers and lists of bytes. Make, read and write take the configuration, since
+-- what they take is a mode's to say; document 01 says the same for both modes, so nothing of it counts here.
 use Prim.Native.Nat.{ℕ, zero, suc, _+_, _-_, _*_, _/_, _%_, _^_}
 use mathlib.Core.Bool.{Bool, cond}
 use mathlib.Core.List.{List, [], _∷_, _++_}

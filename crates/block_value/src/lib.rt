@@ -7,7 +7,7 @@ ghost use Rattle.block_value.specs.Value.{largestPower, made, blockSize,
 pub struct BlockValue {
     pub num: u32,
     pub more: bool,
-    // Only its low three bits count.
+    // Its size and its written form take the low three bits.
     pub size_exponent: u8,
 }
 
@@ -24,6 +24,7 @@ pub enum Reading {
 }
 
 // An option's bytes: the first len of them; the others are 0.
+#[repr(C)]
 pub struct Written {
     pub len: usize,
     pub bytes: [u8; 2],
@@ -43,7 +44,7 @@ fn largest_power_of_2_not_in_excess(target: usize) -> usize
     exponent
 }
 
-// The configuration makes no difference to make, read and write yet.
+// Makes a block value. The configuration goes to make, read and write, whose limits are those of a mode; today the two modes have the same.
 pub fn make(config: Config, num: usize, more: bool, size: usize) -> Made
     ensures { λ r. ⌜ r ≡ made config num more size ⌝ }
 {

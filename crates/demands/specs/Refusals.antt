@@ -1,4 +1,5 @@
--- THE REFUSALS LEAVE WHAT DOCUMENT 01 SAYS ("The ten refusals", column "Leaves"), whatever the configuration, the table, the memories and the call.
+-- THE REFUSALS LEAVE WHAT DOCUMENT 01 SAYS ("The ten refusals", column "Leaves"; of 8 in a request only that the cache is kept), whatever the
+-- configuration, the table, the memories and the call.
 use Prim.Native.Nat.{ℕ, _≤_}
 use mathlib.Core.Path.{_≡_}
 use lib.ListN.{length}

@@ -16,6 +16,10 @@ inUse k touched s = record { key = k; used = true; touched = touched; state = s 
 abbrev pub free : Entry
 free = record { key = noKey; used = false; touched = 0; state = nothing }
 
+-- The entry that a call on the key starts from, of the one at its place: that one, or, if it is free, a new one, which "starts with nothing".
+abbrev pub startFrom : Key → Entry → Entry
+startFrom k e = cond (e .used) e (inUse k 0 nothing)
+
 -- The entry is in use for this key.
 unfoldable pub holds : Name → Entry → Bool
 holds k e = e .used && same k (keyOf (e .key))

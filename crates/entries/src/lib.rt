@@ -6,12 +6,12 @@ use block_state::Recorded;
 use config::Config;
 use keys::Key;
 ghost use mathlib.Core.Path.{_≡_};
-ghost use mathlib.Core.Bool.{true, false, not, _&&_, cond};
+ghost use mathlib.Core.Bool.{true, false, not, _&&_};
 ghost use Prim.Native.Nat.{_-_, _<_};
 ghost use lib.Dec.{ltb};
 ghost use Rattle.block_state.specs.State.{nothing};
 ghost use Rattle.keys.specs.Keys.{keySized};
-ghost use Rattle.entries.specs.Entries.{inUse, free, entryOk, clash, swept};
+ghost use Rattle.entries.specs.Entries.{free, startFrom, entryOk, clash, swept};
 ghost use Rattle.entries.specs.Quick.{tagOf, sized};
 
 #[repr(C)]
@@ -145,7 +145,7 @@ pub fn is_expired(used: bool, touched: u64, lifetime: u64, time: u64) -> bool
 
 // The entry that a call starts from, of the one at the key's place in a swept row.
 pub fn start_from(e: Entry, key: Key) -> Entry
-    ensures { λ r. ⌜ r ≡ cond (e .used) e (inUse key 0 nothing) ⌝ }
+    ensures { λ r. ⌜ r ≡ startFrom key e ⌝ }
 {
     if e.used {
         return e;

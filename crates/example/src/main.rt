@@ -10,8 +10,8 @@ fn main() {
     let numbers = RequestNumbers {
         time: 0,
         bare: 20,
-        block1: true, // it has a Block1 option
-        block2: false,
+        given1: true, // it has a Block1 option
+        given2: false,
     };
     let out = block_handler::intercept_request(
         config,

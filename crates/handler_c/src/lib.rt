@@ -7,26 +7,20 @@ use block_state::state;
 use block_table::Table;
 use block_value::BlockValue;
 use block_value::Reading;
+use block_value::Written;
 use config::Config;
 use negotiation::MaybeBlock;
 use replies::Found;
 use replies::Reply;
 ghost use mathlib.Core.Path.{_≡_};
-ghost use Rattle.block_value.specs.Value.{readOf, written};
+ghost use Rattle.block_value.specs.Value.{readOf, written, inTwo};
 ghost use Rattle.block_table.specs.Table.{freshTable};
 ghost use Rattle.block_handler.specs.Contract.{world, requestCall, responseCall};
 ghost use Rattle.replies.specs.Found.{foundIn, bodyIn, servedHeadIn, chunkIn, sentIn};
-ghost use Rattle.handler_c.specs.Options.{plainConfig, blockRead, inTwoBytes};
+ghost use Rattle.handler_c.specs.Options.{plainConfig, blockRead};
 ghost use Rattle.handler_c.specs.Contract.{Replies};
 
 mod calls;
-
-// An option's bytes: the first len of them; the others are 0.
-#[repr(C)]
-pub struct OptionBytes {
-    pub len: usize,
-    pub bytes: [u8; 2],
-}
 
 // A call's answer in numbers, and what it changes of the table.
 pub struct Outcome {
@@ -71,20 +65,15 @@ pub extern "C" fn block_handler_read(option: &[u8]) -> Recorded
 }
 
 #[no_mangle]
-pub extern "C" fn block_handler_write(num: u32, more: bool, exponent: u8) -> OptionBytes
-    ensures { λ r. ⌜ r ≡ inTwoBytes (written plainConfig (record { num = num; more = more; «size_exponent» = exponent })) ⌝ }
+pub extern "C" fn block_handler_write(num: u32, more: bool, exponent: u8) -> Written
+    ensures { λ r. ⌜ r ≡ inTwo (written plainConfig (record { num = num; more = more; «size_exponent» = exponent })) ⌝ }
 {
     let block = BlockValue {
         num,
         more,
         size_exponent: exponent,
     };
-    let option = block_value::write(plain_config(), block);
-    let bytes = option.bytes;
-    OptionBytes {
-        len: option.len,
-        bytes,
-    }
+    block_value::write(plain_config(), block)
 }
 
 // The body that the application sees, of a payload and an upload memory of these lengths.
@@ -135,15 +124,15 @@ pub extern "C" fn block_handler_request<'a>(
     payload: &'a [u8],
 ) -> Reply
     ensures { λ r. ⌜ Replies config (world (now (table .entry)) (now (upload .entry)) (now (response .entry)))
-        (requestCall (record { time = time; bare = bare; block1 = given1; block2 = given2 }) (now (key .entry)) (now (block1 .entry)) (now (block2 .entry)) (now (payload .entry)))
+        (requestCall (record { time = time; bare = bare; given1 = given1; given2 = given2 }) (now (key .entry)) (now (block1 .entry)) (now (block2 .entry)) (now (payload .entry)))
         (world (now (table .exit)) (now (upload .exit)) (now (response .entry))) r ⌝ }
 {
     let old = *table;
     let numbers = RequestNumbers {
         time,
         bare,
-        block1: given1,
-        block2: given2,
+        given1,
+        given2,
     };
     let out = calls::request(
         old,

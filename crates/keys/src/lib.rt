@@ -1,4 +1,4 @@
-// A key, as a call names it and as an entry stores it: its limits, its bytes, its tag, and when two are the same. Only this crate looks inside one.
+// A key, as a call names it and as an entry stores it: its limits, its bytes, its tag, and when two are the same. But for the text of the state, only this crate looks inside one.
 ghost use mathlib.Core.Path.{_≡_};
 ghost use mathlib.Core.Bool.{true};
 ghost use Prim.Native.Nat.{_≤_};

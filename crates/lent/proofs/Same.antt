@@ -4,7 +4,7 @@ use Prim.Native.Nat.{ℕ, _*_, _≤_, _<_}
 use mathlib.Core.Bool.{Bool, true, false}
 use mathlib.Core.Path.{_≡_, refl, _∙_}
 use mathlib.Core.List.{List}
-use lib.ListN.{length, set}
+use lib.ListN.{length}
 use native.Mathlib.Omega.{arith}
 use borrow.Author.Tests.{eqb-true, eq-eqb, lt-ltb, le-ltb, le-leb, lt-leb}
 use Rattle.pieces.specs.Memory.{pieceOf, putPiece}
@@ -14,7 +14,7 @@ use Rattle.block_state.proofs.Fits.{fits-state}
 use Rattle.config.specs.declared.Config.{Config}
 use Rattle.block_state.specs.Message.{What, request, response}
 use Rattle.entries.specs.declared.Entry.{Entry}
-use Rattle.block_table.specs.Table.{at}
+use Rattle.block_table.specs.Table.{at, tableWith}
 use Rattle.block_table.proofs.TableFits.{table-fits}
 use Rattle.places.specs.Places.{place, opened}
 use Rattle.places.proofs.Places.{opened-own, opened-new}
@@ -44,8 +44,8 @@ module _ (c : Config) (w : World) (time i : ℕ) where
   lentAt e (response r) = responseLent c time e (down c w i) r
 
   abbrev putBack : List Entry → What → Lent → World
-  putBack row (request r) g = record { table = record { clock = time; entries = set row i (g .entry) }; upload = putPiece (c .upload) i (g .piece) (w .upload); response = w .response }
-  putBack row (response r) g = record { table = record { clock = time; entries = set row i (g .entry) }; upload = w .upload; response = putPiece (c .response) i (g .piece) (w .response) }
+  putBack row (request r) g = record { table = tableWith time row i (g .entry); upload = putPiece (c .upload) i (g .piece) (w .upload); response = w .response }
+  putBack row (response r) g = record { table = tableWith time row i (g .entry); upload = w .upload; response = putPiece (c .response) i (g .piece) (w .response) }
 
   pub same-call : (row : List Entry) (e : Entry) (x : What) → roomAt e x ≡ true → callAt c w time row i e x ≡ done (putBack row x (lentAt e x)) (lentAt e x .answer)
   unfolding callAt

@@ -22,7 +22,7 @@ use Rattle.request_step.specs.declared.Taken.the-variants as block
 use Rattle.request_step.specs.Block1.{taken, pieceTaken}
 use Rattle.request_step.specs.Block2.{onward}
 
--- Step 2, once the block of this exponent is taken: "If more: Continue (2.31, the Block1 value), done. Otherwise the body is complete, assembled length
+-- Step 2, by what taking the block of this exponent came to: "If more: Continue (2.31, the Block1 value), done. Otherwise the body is complete, assembled length
 -- becomes 0, go on."
 abbrev pub onTaken : ℕ → ℕ → BlockState → List ℕ → MaybeBlock → ℕ → BlockValue → Taken → Left
 onTaken home away s u block2 exponent reply (block.Refused n) = left s u (Refused n)
@@ -30,7 +30,7 @@ onTaken home away s u block2 exponent reply (block.More n) = left (withAssembled
 onTaken home away s u block2 exponent reply (block.Body n) =
     onward away (withAssembled s (assembly 0 0)) u block2 (Given reply) (Handed reply (bytesFrom home n))
 
--- Step 2, and what follows it: "Block1 given: splice", agreed on with this reply.
+-- Strict mode's two checks, step 2 ("Block1 given: splice"), and what follows, agreed on with this reply.
 unfoldable pub block1Given : Config → ℕ → ℕ → BlockState → List ℕ → MaybeBlock → List ℕ → BlockValue → BlockValue → Left
 block1Given c home away s u block2 payload b reply =
     let t = taken c (s .assembled) b (length payload) in
@@ -59,6 +59,6 @@ askedBy c q option1 option2 =
     record {
       time = q .time;
       bare = q .bare;
-      block1 = requestBlock c (optionOf (q .block1) option1);
-      block2 = requestBlock c (optionOf (q .block2) option2);
+      block1 = requestBlock c (optionOf (q .given1) option1);
+      block2 = requestBlock c (optionOf (q .given2) option2);
     }

@@ -45,8 +45,8 @@ pub fn read_options<'a>(
 ) -> Asked
     ensures { λ r. ⌜ r ≡ askedBy config numbers (now (option1 .entry)) (now (option2 .entry)) ⌝ }
 {
-    let block1 = negotiation::request_block(config, numbers.block1, option1);
-    let block2 = negotiation::request_block(config, numbers.block2, option2);
+    let block1 = negotiation::request_block(config, numbers.given1, option1);
+    let block2 = negotiation::request_block(config, numbers.given2, option2);
     Asked {
         time: numbers.time,
         bare: numbers.bare,

@@ -30,7 +30,7 @@ printed n d payload = answerText n (d .answer) (shownOf (d .answer) payload (d .
 
 -- The numbers of a call, as a line says them.
 abbrev requestNumbers : ℕ → ℕ → Bool → Bool → RequestNumbers
-requestNumbers time bare given1 given2 = record { time = time; bare = bare; block1 = given1; block2 = given2 }
+requestNumbers time bare given1 given2 = record { time = time; bare = bare; given1 = given1; given2 = given2 }
 
 abbrev responseNumbers : ℕ → ℕ → Bool → ResponseNumbers
 responseNumbers time bare own = record { time = time; bare = bare; own = own }

@@ -71,8 +71,8 @@ fn ask<'a>(
     let numbers = RequestNumbers {
         time: call.time,
         bare: call.bare,
-        block1: r.given1,
-        block2: r.given2,
+        given1: r.given1,
+        given2: r.given2,
     };
     let outcome = block_handler::intercept_request(
         config,

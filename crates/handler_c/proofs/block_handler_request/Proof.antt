@@ -99,7 +99,7 @@ module _ {M : Type 1} (𝓤 : URA M) (H : Heap 𝓤) (A : Atoms 𝓤) (W : Given
     abbrev numbers : RequestNumbers
     numbers =
         let m = a .1 .1 .1 .1 in
-        record { time = m .0; bare = m .1 .1 .0; block1 = m .1 .1 .1 .0; block2 = m .1 .1 .1 .1 .1 .0 }
+        record { time = m .0; bare = m .1 .1 .0; given1 = m .1 .1 .1 .0; given2 = m .1 .1 .1 .1 .1 .0 }
 
     -- what is passed on
     abbrev passed : Args g.signature (κs .1)
