@@ -9,7 +9,7 @@ use Rattle.pieces.specs.Memory.{part, within}
 use Rattle.pieces.proofs.Tests.{on-test}
 use Rattle.block_state.specs.declared.Part.{Part}
 use Rattle.block_state.specs.declared.Answer.{Answer}
-use Rattle.block_state.specs.Answers.{handed, pass, served, said}
+use Rattle.apart.specs.Answers.{handed, pass, served, said}
 use Rattle.answers.specs.Parts.{is, numberOf, partOf}
 use Rattle.answer_text.specs.Shown.{shownBy, shownOf}
 

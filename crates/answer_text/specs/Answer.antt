@@ -7,7 +7,7 @@ use Rattle.block_state.specs.declared.Kind.{Kind}
 use Rattle.block_state.specs.declared.Kind.the-variants.{Continue, TooLarge, Handed, Pass, Served, Plain, Whole, First, Refused}
 use Rattle.block_state.specs.declared.Said.{Said}
 use Rattle.block_state.specs.declared.Answer.{Answer}
-use Rattle.block_state.specs.Answers.{continue, tooLarge, plain, refusal, kindNumber, said}
+use Rattle.apart.specs.Answers.{continue, tooLarge, plain, refusal, kindNumber, said}
 use Rattle.answers.specs.Parts.{is}
 use Rattle.script_text.specs.Text.{decimal, shown, maybeText, none}
 

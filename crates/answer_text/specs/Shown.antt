@@ -4,7 +4,7 @@ use mathlib.Core.Bool.{cond}
 use mathlib.Core.List.{List}
 use Rattle.block_state.specs.declared.Part.{Part}
 use Rattle.block_state.specs.declared.Answer.{Answer}
-use Rattle.block_state.specs.Answers.{handed, pass, served, said}
+use Rattle.apart.specs.Answers.{handed, pass, served, said}
 use Rattle.answers.specs.Parts.{is, numberOf, partOf}
 
 -- Of an answer of number n, whose part is p: the payload of Pass, else its part of the upload memory for Handed, of the response memory for Served, and of the

@@ -2,7 +2,6 @@
 use block_state::Answer;
 use block_state::Kind;
 use block_state::Part;
-use block_state::apart;
 use negotiation::MaybeBlock;
 ghost use mathlib.Core.Path.{_≡_};
 ghost use Prim.Native.Nat.{_+_, _*_, _≤_};

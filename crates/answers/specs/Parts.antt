@@ -7,7 +7,7 @@ use Rattle.pieces.specs.Memory.{within}
 use Rattle.block_state.specs.declared.Part.{Part}
 use Rattle.block_state.specs.declared.Kind.{Kind}
 use Rattle.block_state.specs.declared.Answer.{Answer}
-use Rattle.block_state.specs.Answers.{handed, pass, served, plain, whole, first, kindNumber, said}
+use Rattle.apart.specs.Answers.{handed, pass, served, plain, whole, first, kindNumber, said}
 use Rattle.answers.specs.declared.Source.{Source}
 use Rattle.answers.specs.declared.Source.the-variants.{Nothing, Message, Within}
 

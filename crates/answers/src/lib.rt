@@ -1,9 +1,8 @@
 // What an answer shows and says: the bytes it names, lent and never copied, and its response code.
 use block_state::Answer;
 use block_state::Part;
-use block_state::apart;
 ghost use mathlib.Core.Path.{_≡_};
-ghost use Rattle.block_state.specs.Answers.{said};
+ghost use Rattle.apart.specs.Answers.{said};
 
 mod parts;
 

@@ -2,7 +2,6 @@
 use crate::Source;
 use block_state::Answer;
 use block_state::Part;
-use block_state::apart;
 ghost use mathlib.Core.Path.{_≡_};
 ghost use Rattle.answers.specs.Parts.{sourceIf, bodySource, servedSource, sentSource, bytesOf, bodyOf, servedHead, servedChunk, sentBytes};
 

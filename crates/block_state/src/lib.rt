@@ -2,7 +2,6 @@
 use block_value::BlockValue;
 use negotiation::MaybeBlock;
 
-pub mod apart;
 pub mod limits;
 pub mod state;
 

@@ -14,7 +14,7 @@ use Rattle.block_state.specs.declared.BlockState.{BlockState}
 use Rattle.block_state.specs.declared.Answer.{Answer}
 use Rattle.block_state.specs.declared.Answer.the-variants.{Refused}
 use Rattle.block_state.specs.Message.{Request, Response, request, response}
-use Rattle.block_state.specs.Answers.{said}
+use Rattle.apart.specs.Answers.{said}
 use Rattle.block_state.specs.Step.{Left}
 use Rattle.block_handler.specs.Call.{World, Call, call}
 use Rattle.demands.specs.Touch.{Placed, RefusesTo}

@@ -11,7 +11,7 @@ use Rattle.block_value.specs.Value.{blockSize, blockStart}
 use Rattle.block_value.specs.declared.BlockValue.{BlockValue}
 use Rattle.block_value.proofs.Laws.{size-least}
 use Rattle.block_state.specs.declared.Assembled.{Assembled}
-use Rattle.request_step.specs.Block1.{badForm, notNext, lengthMet}
+use Rattle.request_block1.specs.Block1.{badForm, notNext, lengthMet}
 use Rattle.demands.specs.Strict.{BadlyFormed, Misplaced}
 
 pub and-none : (a b : Bool) → b ≡ false → (a && b) ≡ false

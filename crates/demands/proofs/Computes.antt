@@ -5,8 +5,8 @@ use Rattle.block_value.specs.Value as value
 use Rattle.negotiation.specs.Negotiation as negotiation
 use Rattle.negotiation.specs.Chunk as chunk
 use Rattle.block_state.specs.State as state
-use Rattle.request_step.specs.Block2 as block2
-use Rattle.request_step.specs.Block1 as block1
+use Rattle.request_block2.specs.Block2 as block2
+use Rattle.request_block1.specs.Block1 as block1
 use Rattle.request_step.specs.Step as step
 use Rattle.response_step.specs.Step as reply
 use Rattle.keys.specs.Keys as keys

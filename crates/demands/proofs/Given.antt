@@ -15,7 +15,7 @@ use Rattle.negotiation.specs.Negotiation.{negotiated}
 use Rattle.negotiation.specs.declared.MaybeBlock.the-variants.{Given}
 use Rattle.negotiation.specs.declared.Negotiated.the-variants.{Block}
 use Rattle.block_state.specs.Message.{request, WhatBytes}
-use Rattle.block_state.specs.Answers.{said, served}
+use Rattle.apart.specs.Answers.{said, served}
 use Rattle.keys.specs.Keys as keys
 use Rattle.answers.specs.Parts.{servedChunk}
 use Rattle.block_handler.specs.Call.{Call, call, withinLimits}

@@ -23,7 +23,7 @@ use Rattle.block_state.specs.declared.Answer.the-variants.{Continue, Handed}
 use Rattle.block_state.specs.Message.{Request}
 use Rattle.block_state.specs.State.{assembly, withAssembled, withRecorded}
 use Rattle.block_state.specs.Step.{Left, left, bytesFrom}
-use Rattle.request_step.specs.Block1.{lengthMet}
+use Rattle.request_block1.specs.Block1.{lengthMet}
 use Rattle.request_step.specs.Step.{stepRequest}
 use Rattle.pieces.proofs.Tests.{clash-of}
 use Rattle.block_handler.specs.Call.{call}

@@ -32,9 +32,9 @@ use Rattle.block_state.specs.declared.Answer.the-variants.{Continue, TooLarge, 
 use Rattle.block_state.specs.Message.{Request, Response, request, response}
 use Rattle.block_state.specs.State.{assembly, keptWhile, caching, recordedBlock, withRecorded}
 use Rattle.block_state.specs.Step.{Left, left, bytesFrom}
-use Rattle.request_step.specs.Block2 as block2
-use Rattle.request_step.specs.declared.Taken.{Taken}
-use Rattle.request_step.specs.Block1.{badForm, notNext, lengthMet, takenAs, taken, pieceTaken}
+use Rattle.request_block2.specs.Block2 as block2
+use Rattle.request_block1.specs.declared.Taken.{Taken}
+use Rattle.request_block1.specs.Block1.{badForm, notNext, lengthMet, takenAs, taken, pieceTaken}
 use Rattle.request_step.specs.Step.{onTaken, block1Given, onNegotiated, stepRequest}
 use Rattle.response_step.specs.Step.{chunked, onReply, stepResponse}
 use Rattle.entries.specs.declared.Entry.{Entry}

@@ -27,7 +27,7 @@ use Rattle.block_state.specs.declared.Answer.the-variants.{Continue, Handed}
 use Rattle.block_state.specs.Message.{Request}
 use Rattle.block_state.specs.State.{assembly, withAssembled, withRecorded}
 use Rattle.block_state.specs.Step.{left, bytesFrom}
-use Rattle.request_step.specs.Block1.{badForm, notNext, lengthMet}
+use Rattle.request_block1.specs.Block1.{badForm, notNext, lengthMet}
 use Rattle.request_step.specs.Step.{stepRequest}
 use Rattle.demands.specs.Demand3.{block, Fills}
 use Rattle.demands.specs.Agreed.{requestAgrees}

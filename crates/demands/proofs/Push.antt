@@ -20,7 +20,7 @@ use Rattle.negotiation.specs.declared.MaybeBlock.the-variants.{Absent, Given}
 use Rattle.config.specs.declared.Config.{Config}
 use Rattle.block_state.specs.declared.BlockState.{BlockState}
 use Rattle.block_state.specs.Message.{Request, request, WhatBytes}
-use Rattle.block_state.specs.Answers.{said, continue}
+use Rattle.apart.specs.Answers.{said, continue}
 use Rattle.block_state.specs.State.{assembly}
 use Rattle.block_state.specs.Step.{bytesFrom}
 use Rattle.request_step.specs.Step.{stepRequest}

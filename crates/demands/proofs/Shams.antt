@@ -17,7 +17,7 @@ use Rattle.config.specs.declared.Config.{Config}
 use Rattle.block_state.specs.declared.Part.{Part}
 use Rattle.block_state.specs.declared.Answer.{Answer}
 use Rattle.block_state.specs.declared.Answer.the-variants.{Continue, TooLarge, Handed, Pass, Served, Plain, Whole, First, Refused}
-use Rattle.block_state.specs.Answers.{said, continue, handed}
+use Rattle.apart.specs.Answers.{said, continue, handed}
 use Rattle.keys.specs.Keys as keys
 use Rattle.keys.specs.Keys.{Name}
 use Rattle.entries.specs.declared.Entry.{Entry}

@@ -24,12 +24,12 @@ use Rattle.block_state.specs.declared.Answer.the-variants.{Continue, Handed, Pl
 use Rattle.block_state.specs.Message.{Request, Response}
 use Rattle.block_state.specs.State.{assembly, recordedBlock, withAssembled, withRecorded}
 use Rattle.block_state.specs.Step.{Left, left, bytesFrom}
-use Rattle.request_step.specs.declared.Taken.{Taken}
-use Rattle.request_step.specs.declared.Taken.the-variants as block
-use Rattle.request_step.specs.Block1.{badForm, notNext, lengthMet, takenAs, taken, pieceTaken}
+use Rattle.request_block1.specs.declared.Taken.{Taken}
+use Rattle.request_block1.specs.declared.Taken.the-variants as block
+use Rattle.request_block1.specs.Block1.{badForm, notNext, lengthMet, takenAs, taken, pieceTaken}
 use Rattle.request_step.specs.Step.{onTaken, block1Given, onNegotiated, stepRequest}
-use Rattle.request_step.proofs.Taking.{taken-bad, taken-not-next, taken-next}
-use Rattle.request_step.proofs.Serving.{onward-absent}
+use Rattle.request_block1.proofs.Taking.{taken-bad, taken-not-next, taken-next}
+use Rattle.request_block2.proofs.Serving.{onward-absent}
 use Rattle.request_step.proofs.Steps as steps
 use Rattle.response_step.specs.Step.{chunked, onReply, stepResponse}
 use Rattle.demands.specs.Agreed.{requestAgrees}

@@ -22,7 +22,7 @@ use Rattle.block_state.specs.declared.Answer.{Answer}
 use Rattle.block_state.specs.declared.Answer.the-variants.{Refused}
 use Rattle.block_state.specs.Message.{Request, Response, request, response}
 use Rattle.block_state.specs.Step.{Left}
-use Rattle.request_step.specs.Block1.{badForm, notNext}
+use Rattle.request_block1.specs.Block1.{badForm, notNext}
 use Rattle.block_handler.specs.Call.{World, Call, callAt, call}
 use Rattle.demands.specs.Agreed.{requestAgrees}
 use Rattle.demands.specs.Touch.{RefusesTo}

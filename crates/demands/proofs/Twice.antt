@@ -22,7 +22,7 @@ use Rattle.block_state.specs.declared.Answer.the-variants.{Handed, Refused}
 use Rattle.block_state.specs.Message.{Request, request, WhatBytes}
 use Rattle.block_state.specs.State.{assembly, withAssembled, withRecorded}
 use Rattle.block_state.specs.Step.{left, bytesFrom}
-use Rattle.request_step.specs.Block1.{notNext, lengthMet}
+use Rattle.request_block1.specs.Block1.{notNext, lengthMet}
 use Rattle.request_step.specs.Step.{stepRequest}
 use Rattle.keys.specs.Keys.{Name, keyOk}
 use Rattle.entries.specs.declared.Entry.{Entry}

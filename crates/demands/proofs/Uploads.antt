@@ -26,7 +26,7 @@ use Rattle.block_state.specs.Message.{Request, What, request, response, WhatByt
 use Rattle.block_state.specs.State.{assembledOk}
 use Rattle.block_state.proofs.Fits.{StateFits}
 use Rattle.block_state.specs.Step.{Left, bytesFrom}
-use Rattle.request_step.specs.Block1.{lengthMet}
+use Rattle.request_block1.specs.Block1.{lengthMet}
 use Rattle.request_step.specs.Step.{stepRequest}
 use Rattle.request_step.proofs.StepKeeps.{request-keeps}
 use Rattle.response_step.specs.Step.{stepResponse}

@@ -12,7 +12,7 @@ use Rattle.negotiation.specs.declared.Negotiated.{Negotiated}
 use Rattle.negotiation.specs.declared.Negotiated.the-variants.{Block, Refused}
 use Rattle.config.specs.declared.Config.{Config}
 use Rattle.block_state.specs.Message.{Request, Response, request, response}
-use Rattle.block_state.specs.Answers.{said}
+use Rattle.apart.specs.Answers.{said}
 use Rattle.block_state.specs.State.{recordedBlock}
 use Rattle.places.specs.Places.{opened}
 use Rattle.block_handler.specs.Call.{World, Call, rowOf}

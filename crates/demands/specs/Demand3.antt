@@ -16,7 +16,7 @@ use Rattle.negotiation.specs.declared.MaybeBlock.the-variants.{Absent, Given}
 use Rattle.config.specs.declared.Config.{Config}
 use Rattle.block_state.specs.declared.Answer.{Answer}
 use Rattle.block_state.specs.Message.{Request, What, request, response, WhatBytes}
-use Rattle.block_state.specs.Answers.{said, continue, handed}
+use Rattle.apart.specs.Answers.{said, continue, handed}
 use Rattle.entries.specs.declared.Entry.{Entry}
 use Rattle.keys.specs.Keys.{Name, same}
 use Rattle.entries.specs.Entries.{holds, live}

@@ -7,7 +7,7 @@ use mathlib.Core.Option.{none, some}
 use lib.ListN.{length, replicate}
 use Rattle.config.specs.declared.Config.{Config}
 use Rattle.block_state.specs.Message.{request, response}
-use Rattle.block_state.specs.Answers.{said, served}
+use Rattle.apart.specs.Answers.{said, served}
 use Rattle.keys.specs.Keys.{Name}
 use Rattle.block_table.specs.Table.{freshTable}
 use Rattle.answers.specs.Parts.{servedChunk}

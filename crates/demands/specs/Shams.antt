@@ -15,7 +15,7 @@ use Rattle.block_state.specs.declared.Kind.{Kind}
 use Rattle.block_state.specs.declared.Answer.{Answer}
 use Rattle.block_state.specs.declared.Answer.the-variants.{Continue, Handed, Pass, Refused}
 use Rattle.block_state.specs.Message.{What, request, response}
-use Rattle.block_state.specs.Answers.{said, continue, handed, pass, first, refusal}
+use Rattle.apart.specs.Answers.{said, continue, handed, pass, first, refusal}
 use Rattle.block_state.specs.State.{nothing}
 use Rattle.block_state.specs.Step.{bytesFrom}
 use Rattle.keys.specs.Keys.{Name, stored}

@@ -19,7 +19,7 @@ use Rattle.block_state.specs.declared.BlockState.{BlockState}
 use Rattle.block_state.specs.declared.Answer.{Answer}
 use Rattle.block_state.specs.declared.Answer.the-variants.{Continue, TooLarge, Handed, Pass, Served, Plain, Whole, First, Refused}
 use Rattle.block_state.specs.Message.{Request, Response, request, response}
-use Rattle.block_state.specs.Answers.{said}
+use Rattle.apart.specs.Answers.{said}
 use Rattle.block_state.specs.State.{assembly, nothing, withAssembled}
 use Rattle.block_state.specs.Step.{bytesFrom}
 use Rattle.places.specs.Places.{opened}

@@ -4,7 +4,7 @@ use mathlib.Core.Path.{_≡_, refl, sym, ap, ap₂, _∙_}
 use mathlib.Core.List.{List, [], _∷_, map}
 use Rattle.pieces.proofs.Tests.{by-cases}
 use Rattle.config.specs.declared.Config.{Config}
-use Rattle.block_state.specs.Answers.{kindNumber, said}
+use Rattle.apart.specs.Answers.{kindNumber, said}
 use Rattle.keys.specs.Keys.{Name}
 use Rattle.block_handler.specs.Call.{World, Call, call}
 use Rattle.replies.specs.Reply.{replyOf}

@@ -2,7 +2,7 @@
 use Rattle.block_state.specs.declared.Said.{Said}
 use Rattle.block_state.specs.declared.Answer.{Answer}
 use Rattle.block_state.specs.State.{recording}
-use Rattle.block_state.specs.Answers.{kindNumber, said}
+use Rattle.apart.specs.Answers.{kindNumber, said}
 use Rattle.replies.specs.declared.Reply.{Reply}
 
 abbrev pub inNumbers : Said → Reply

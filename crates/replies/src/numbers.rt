@@ -3,7 +3,6 @@ use crate::Found;
 use crate::Reply;
 use answers::Source;
 use block_state::Answer;
-use block_state::apart;
 use block_state::state;
 ghost use mathlib.Core.Path.{_≡_};
 ghost use Rattle.replies.specs.Reply.{replyOf};

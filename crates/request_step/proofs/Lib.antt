@@ -1,4 +1,2 @@
-pub mod Taking
-pub mod Serving
 pub mod Steps
 pub mod StepKeeps

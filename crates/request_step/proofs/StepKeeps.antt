@@ -18,14 +18,14 @@ use Rattle.block_state.specs.declared.Answer.the-variants.{Continue, TooLarge, 
 use Rattle.block_state.specs.Message.{OptionBytes, Request}
 use Rattle.block_state.specs.State.{assembly, withAssembled}
 use Rattle.block_state.specs.Step.{bytesFrom}
-use Rattle.request_step.specs.declared.Taken.{Taken}
-use Rattle.request_step.specs.declared.Taken.the-variants as block
-use Rattle.request_step.specs.Block1.{taken, pieceTaken}
+use Rattle.request_block1.specs.declared.Taken.{Taken}
+use Rattle.request_block1.specs.declared.Taken.the-variants as block
+use Rattle.request_block1.specs.Block1.{taken, pieceTaken}
 use Rattle.request_step.specs.Step.{onTaken, block1Given, onNegotiated, stepRequest}
 use Rattle.block_state.proofs.Fits.{StateFits, assembled-most, assembly-ok, Held}
 use Rattle.block_state.proofs.StepKeeps.{Keeps, as-it-was}
-use Rattle.request_step.proofs.Taking.{Holds, taken-holds}
-use Rattle.request_step.proofs.Serving.{onward-keeps}
+use Rattle.request_block1.proofs.Taking.{Holds, taken-holds}
+use Rattle.request_block2.proofs.Serving.{onward-keeps}
 
 -- what an option can hold
 pub read-held : (c : Config) (o : Option (List ℕ)) → OptionBytes o → Held 4095 (requestBlock c o)

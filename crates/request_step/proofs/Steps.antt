@@ -16,9 +16,9 @@ use Rattle.block_state.specs.declared.Answer.the-variants.{TooLarge, Pass, Refu
 use Rattle.block_state.specs.Contract.{asking}
 use Rattle.block_state.specs.Step.{left}
 use Rattle.request_step.specs.declared.Asked.{Asked}
-use Rattle.request_step.specs.declared.Taken.{Taken}
-use Rattle.request_step.specs.Block1.{taken, pieceTaken}
-use Rattle.request_step.specs.Block2.{onward}
+use Rattle.request_block1.specs.declared.Taken.{Taken}
+use Rattle.request_block1.specs.Block1.{taken, pieceTaken}
+use Rattle.request_block2.specs.Block2.{onward}
 use Rattle.request_step.specs.Step.{onTaken, block1Given, onNegotiated, stepWith, stepRequest, askedBy}
 
 module _ (c : Config) (home at : ℕ) (s : BlockState) (u : List ℕ) (block2 : MaybeBlock) (payload : List ℕ) (block1 : MaybeBlock) (reply : Negotiated) where

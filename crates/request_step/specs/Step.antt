@@ -17,10 +17,10 @@ use Rattle.block_state.specs.Message.{Request}
 use Rattle.block_state.specs.State.{assembly, withAssembled}
 use Rattle.block_state.specs.Step.{Left, left, bytesFrom}
 use Rattle.request_step.specs.declared.Asked.{Asked}
-use Rattle.request_step.specs.declared.Taken.{Taken}
-use Rattle.request_step.specs.declared.Taken.the-variants as block
-use Rattle.request_step.specs.Block1.{taken, pieceTaken}
-use Rattle.request_step.specs.Block2.{onward}
+use Rattle.request_block1.specs.declared.Taken.{Taken}
+use Rattle.request_block1.specs.declared.Taken.the-variants as block
+use Rattle.request_block1.specs.Block1.{taken, pieceTaken}
+use Rattle.request_block2.specs.Block2.{onward}
 
 -- Step 2, by what taking the block of this exponent came to: "If more: Continue (2.31, the Block1 value), done. Otherwise the body is complete, assembled length
 -- becomes 0, go on."

@@ -9,17 +9,15 @@ use block_value::BlockValue;
 use config::Config;
 use negotiation::MaybeBlock;
 use negotiation::Negotiated;
+use request_block1::Taken;
 ghost use mathlib.Core.Path.{_≡_};
 ghost use mathlib.Core.List.{List};
 ghost use Prim.Native.Nat.{ℕ, _^_, _<_};
 ghost use lib.ListN.{length};
 ghost use Rattle.block_state.specs.Step.{left};
 ghost use Rattle.block_state.specs.Contract.{Room};
-ghost use Rattle.request_step.specs.Block1.{AtMost};
+ghost use Rattle.request_block1.specs.Block1.{AtMost};
 ghost use Rattle.request_step.specs.Step.{onTaken, stepWith, askedBy};
-
-mod block1;
-mod block2;
 
 // A request's numbers, once its options are read.
 pub struct Asked {
@@ -27,13 +25,6 @@ pub struct Asked {
     pub bare: usize,
     pub block1: MaybeBlock,
     pub block2: MaybeBlock,
-}
-
-// What taking a block comes to: more are awaited after n bytes, or n bytes are the body.
-pub enum Taken {
-    Refused(u8),
-    More(usize),
-    Body(usize),
 }
 
 // Reads the options, once for all that follows.
@@ -81,7 +72,7 @@ fn go_on(
             };
             let next = state::with_assembled(state, 0, 0);
             let block1 = MaybeBlock::Given(reply);
-            block2::maybe_handle_request_block2(
+            request_block2::maybe_handle_request_block2(
                 away,
                 next,
                 block2,
@@ -110,7 +101,7 @@ pub fn step_request(
     let p = payload.len();
     match negotiation::negotiate_block_size_if_necessary(config, block1, asked.bare, p) {
         Negotiated::Refused(n) => state::refused(state, n),
-        Negotiated::NoBlock => block2::maybe_handle_request_block2(
+        Negotiated::NoBlock => request_block2::maybe_handle_request_block2(
             away,
             state,
             block2,
@@ -121,7 +112,13 @@ pub fn step_request(
             MaybeBlock::Absent => state::answered(state, Answer::TooLarge(reply)),
             MaybeBlock::Given(block) => {
                 let assembled = state.assembled;
-                let taken = block1::handle_request_block1(config, assembled, piece, payload, block);
+                let taken = request_block1::handle_request_block1(
+                    config,
+                    assembled,
+                    piece,
+                    payload,
+                    block,
+                );
                 go_on(home, away, state, block2, block.size_exponent, reply, taken)
             }
         },

@@ -2,7 +2,7 @@ use mathlib.Core.Path.{sym, _∙_}
 use Prim.Native.Nat.{_≤_}
 use native.Mathlib.Omega.{arith}
 use Rattle.block_state.proofs.Steps.{returned}
-use Rattle.request_step.proofs.Taking.{taken-at-most}
+use Rattle.request_block1.proofs.Taking.{taken-at-most}
 use Rattle.request_step.proofs.Steps.{step-refused, step-plain, step-large, step-given}
 use borrow.Author.Needs.{needs}
 use Rattle.request_step.proofs.step_request.Statement.{statement}
