@@ -60,7 +60,7 @@ abbrev pub ofItsOwn : ℕ
 ofItsOwn = 0
 
 -- 9 is 4.08 and 10 is 4.00, as document 01 says; 8 is the Rust's bad request, 4.00; 4, 5 and 6 are its internal
--- error, 5.00, and so are the others, which it has not.
+-- error, 5.00 (so is a 5 where the Rust panics), and so are the others, which it has not.
 abbrev pub refusalCode : ℕ → ℕ
 refusalCode n = cond (eqb n 9) (coapCode 4 8) (cond (eqb n 10 || eqb n 8) (coapCode 4 0) (coapCode 5 0))
 

@@ -155,7 +155,7 @@ pub fn changed_table(table: Table, lifetime: u64, time: u64, change: Change) -> 
     block_table::put_entry(entries, change.clock, change.at, entry)
 }
 
-// What a request changes. The block options are given or not, and their bytes count only if they are.
+// A request: the upload memory is changed here, and what changes of this table, at this time and lifetime, is returned. The block options are given or not, and their bytes count only if they are.
 pub fn request_change<'a>(
     config: Config,
     table: Table,
@@ -225,7 +225,7 @@ pub fn intercept_request<'a>(
     }
 }
 
-// What a response changes. `head` is its encoded header and options.
+// A response: the response memory is changed here, and what changes of the table is returned. `head` is its encoded header and options.
 pub fn response_change<'a>(
     config: Config,
     table: Table,

@@ -81,7 +81,7 @@ pub enum Answer {
     Served(Served),
     // The response goes out as it is.
     Plain,
-    // The response goes out with this Block2 value and this part of its own payload; nothing is cached.
+    // The response goes out with this Block2 value and this part of its own payload; it is not cached, and an older cache stays.
     Whole(BlockValue, Part),
     // The same, and the response is cached.
     First(BlockValue, Part),

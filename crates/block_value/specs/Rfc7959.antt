@@ -21,7 +21,7 @@ pub record Holds (option : List ℕ) (num : ℕ) (more : Bool) (szx : ℕ) : Typ
   pub scalar : uint option ≡ num * 16 + cond more 8 0 + szx
   pub three-bits : szx < 8
 
--- "The size is 2^(SZX + 4), so 16 to 1024"; SZX 7 is reserved. The block starts at NUM times the size.
+-- The size is 2 to the power SZX + 4; the RFC reserves SZX 7, so that a size is 16 to 1024. The block starts at NUM times the size.
 abbrev pub bytesIn : ℕ → ℕ
 bytesIn szx = 2 ^ (szx + 4)
 

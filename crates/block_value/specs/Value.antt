@@ -52,7 +52,7 @@ readOf c (a ∷ []) = Value (unpacked a)
 readOf c (a ∷ b ∷ []) = Value (unpacked (a * 256 + b))
 readOf c (a ∷ b ∷ d ∷ rest) = Unreadable
 
--- "Num*16 + 8 if more + exponent, num taken modulo 4096."
+-- "Num*16 + 8 if more + exponent, num taken modulo 4096." Of an exponent above 7, which no block value has, the low three bits count.
 abbrev pub packed : Config → BlockValue → ℕ
 packed c b = b .num % 4096 * 16 + cond (b .more) 8 0 + b .«size_exponent» % 8
 

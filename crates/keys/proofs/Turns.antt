@@ -1,14 +1,14 @@
 -- The laws that loops over keys and rows use: what one turn takes off the front of what is left. Assumes nothing.
 use mathlib.Core.Path.{_≡_, refl, sym, ap, ap₂, _∙_}
 use mathlib.Core.List.{List, [], _∷_, _++_}
-use mathlib.Core.Bool.{Bool, true, false, _&&_, and-false}
+use mathlib.Core.Bool.{Bool, true, false, _&&_, and-false, and-true, and-assoc}
 use Prim.Native.Nat.{ℕ, suc, zero, _+_, _-_, _≤_, _<_}
 use native.Mathlib.Numerals.{add-one}
 use native.Mathlib.Omega.{arith}
 use lib.ListN.{length, getD, take, drop, set, replicate, drop-of-length-le}
 use lib.Seq.{drop-cons, take-suc, append-snoc, set-at, length-take-le}
 use lib.Dec.{eqb}
-use borrow.Author.Tests.{eq-eqb, ne-eqb, eqb-true, eqb-false}
+use borrow.Author.Tests.{eqb-true}
 use Rattle.keys.specs.declared.Key.{Key}
 use Rattle.keys.specs.Lists.{find, all}
 use Rattle.keys.specs.Keys.{Name, same}
@@ -27,6 +27,13 @@ module _ {A : Type 0} where
 
     pub all-end : length l ≤ i → all p (drop i l) ≡ true
     all-end h = rw (drop-of-length-le l h)
+
+    -- What was found of the elements before i, and of all from there on.
+    pub all-turn : (d : A) (met r : Bool) → i < length l → (met && all p (drop i l)) ≡ r → (met && p (getD l i d) && all p (drop (i + 1) l)) ≡ r
+    all-turn d met r h was = and-assoc met (p (getD l i d)) (all p (drop (i + 1) l)) ∙ rw (drop-step l i d h) at was
+
+    pub all-done : (met r : Bool) → length l ≤ i → (met && all p (drop i l)) ≡ r → met ≡ r
+    all-done met r h was = sym (and-true met) ∙ rw (drop-of-length-le l h) at was
 
     pub find-go : (d : A) (n : ℕ) → i < length l → p (getD l i d) ≡ false → i + find p (drop i l) ≡ n → (i + 1) + find p (drop (i + 1) l) ≡ n
     find-go d n h e was =
@@ -53,19 +60,12 @@ module _ (a b : Name) (i : ℕ) (equal r : Bool) where
   pub same-go : i < length a → i < length b → (equal && same (drop i a) (drop i b)) ≡ r
       → (equal && eqb (getD a i 0) (getD b i 0) && same (drop (i + 1) a) (drop (i + 1) b)) ≡ r
   unfolding same
-  same-go h k was = turn equal (eqb (getD a i 0) (getD b i 0)) ∙ rw (drop-step a i 0 h, drop-step b i 0 k) at was
-    where
-      turn : (x y : Bool) → (x && y && same (drop (i + 1) a) (drop (i + 1) b)) ≡ (x && (y && same (drop (i + 1) a) (drop (i + 1) b)))
-      turn true y = refl
-      turn false y = refl
+  same-go h k was =
+      and-assoc equal (eqb (getD a i 0) (getD b i 0)) (same (drop (i + 1) a) (drop (i + 1) b)) ∙ rw (drop-step a i 0 h, drop-step b i 0 k) at was
 
   pub same-end : length a ≤ i → length b ≤ i → (equal && same (drop i a) (drop i b)) ≡ r → equal ≡ r
   unfolding same
   same-end h k was = sym (and-true equal) ∙ rw (drop-of-length-le a h, drop-of-length-le b k) at was
-    where
-      and-true : (x : Bool) → (x && true) ≡ x
-      and-true true = refl
-      and-true false = refl
 
 pub same-length : (a b : Name) → (length a ≡ length b → ⊥) → same a b ≡ false
 unfolding same
@@ -73,34 +73,6 @@ same-length [] [] n = absurd (n refl)
 same-length [] (y ∷ ys) n = refl
 same-length (x ∷ xs) [] n = refl
 same-length (x ∷ xs) (y ∷ ys) n = rw (same-length xs ys (λ e. n (ap suc e)), and-false)
-
--- Bytes are all zeros exactly if their sum is 0.
-abbrev pub total : List ℕ → ℕ
-total [] = 0
-total (x ∷ xs) = x + total xs
-
-pub total-go : (l : List ℕ) (i s r a : ℕ) → i < length l → r ≡ getD l i 0 → s + total (drop i l) ≡ a → (s + r) + total (drop (i + 1) l) ≡ a
-total-go l i s r a h e was =
-    let f : total (drop i l) ≡ getD l i 0 + total (drop (i + 1) l) = rw (drop-step l i 0 h) in
-    omega arith
-
-pub total-end : (l : List ℕ) (i s a : ℕ) → length l ≤ i → s + total (drop i l) ≡ a → s ≡ a
-total-end l i s a h was =
-    let f : total (drop i l) ≡ 0 = rw (drop-of-length-le l h) in
-    omega arith
-
-zero-by : (x t : ℕ) (y z : Bool) → eqb x 0 ≡ y → eqb t 0 ≡ z → eqb (x + t) 0 ≡ (y && z)
-zero-by x t true true p q =
-    let a : x ≡ 0 = eqb-true x 0 p in
-    let b : t ≡ 0 = eqb-true t 0 q in
-    eq-eqb (x + t) 0 (omega arith)
-zero-by x t true false p q = ne-eqb (x + t) 0 (λ h. eqb-false t 0 q (omega arith))
-zero-by x t false true p q = ne-eqb (x + t) 0 (λ h. eqb-false x 0 p (omega arith))
-zero-by x t false false p q = ne-eqb (x + t) 0 (λ h. eqb-false x 0 p (omega arith))
-
-pub total-zeros : (l : List ℕ) → eqb (total l) 0 ≡ all (λ b. eqb b 0) l
-total-zeros [] = refl
-total-zeros (x ∷ xs) = zero-by x (total xs) _ (all (λ b. eqb b 0) xs) refl (total-zeros xs)
 
 pub drop-zeros : (m n : ℕ) → n ≤ m → drop {A = ℕ} n (replicate m 0) ≡ replicate (m - n) 0
 drop-zeros m zero h = let e : m - 0 ≡ m = omega arith in rw e

@@ -24,7 +24,7 @@ same (a ∷ s) (b ∷ t) = eqb a b && same s t
 unfoldable pub keyOk : Name → Bool
 keyOk k = leb 1 (length k) && leb (length k) 64
 
--- The key that an entry stores. Bytes past its length are in no clause: they are never compared.
+-- The key that an entry in use stores. Its bytes past its length are in no clause: they are never compared.
 unfoldable pub keyOf : Key → Name
 keyOf k = take (k .len) (k .bytes)
 

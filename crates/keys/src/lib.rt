@@ -45,17 +45,17 @@ pub fn no_key() -> Key
     }
 }
 
-// Summed in 32 bits, since such a loop is vectorised.
+// Each byte is looked at, since a loop that ends early is not vectorised.
 fn zero_bytes(bytes: [u8; 64]) -> bool
     ensures { λ r. ⌜ (r ≡ all (λ b. eqb b 0) bytes) × (length bytes ≡ 64) ⌝ }
 {
-    let mut sum = 0;
+    let mut zero = true;
     let mut i = 0;
     while i < 64 {
-        sum += wide::u32_of_u8(bytes[i]);
+        zero = zero & (bytes[i] == 0);
         i += 1;
     }
-    sum == 0
+    zero
 }
 
 pub fn is_no_key(key: Key) -> bool
@@ -65,7 +65,7 @@ pub fn is_no_key(key: Key) -> bool
     zero_bytes(bytes) & (key.len == 0)
 }
 
-// ---- The bytes of a stored key: the first `len`, all of them where `len` is off the limits
+// ---- The bytes of a stored key: the first `len`, all of them where `len` is above 64
 
 // How many they are. Its contract gives the proof the length of the array, too.
 fn cut(bytes: [u8; 64], len: u8) -> usize
@@ -149,7 +149,7 @@ fn stored_key(key: &[u8]) -> Key
     }
 }
 
-// The one place where the bytes of a call's key are read.
+// A call reads the bytes of its key here, and nowhere else.
 pub fn named(key: &[u8]) -> NamedKey
     ensures { λ r. ⌜ r ≡ namedOf (now (key .entry)) ⌝ }
 {

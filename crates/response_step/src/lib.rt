@@ -43,7 +43,7 @@ fn caching_state(state: BlockState, head: usize, payload: usize) -> BlockState
     state::with_cached(state, cached)
 }
 
-// The response is cached, and its first chunk goes out.
+// The response is cached, and the chunk asked for goes out; refusal 7 where head and payload do not fit the piece.
 fn cache_response<'a>(
     config: Config,
     state: BlockState,
