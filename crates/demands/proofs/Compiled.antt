@@ -2,7 +2,8 @@
 use mathlib.Core.Path.{_≡_, refl, sym, ap, subst}
 use mathlib.Core.List.{List, [], _∷_}
 use Rattle.block_handler.specs.Call.{call}
-use Rattle.demands.specs.Demand3.{Handler, Seen, seen, callOn, Demand3}
+use Rattle.one_call.specs.Handler.{Handler}
+use Rattle.demands.specs.Demand3.{Seen, seen, callOn, Demand3}
 use Rattle.demands.specs.Compiled.{RequestEnsures, ResponseEnsures, BodyEnsures, RequestAsks, ResponseAsks, BodyAsks, KeepsContract, OfAllThatKeep, RunsAreCalls, Demand3OfRuns}
 use Rattle.demands.proofs.Demand3.{demand3}
 

@@ -22,9 +22,10 @@ use Rattle.places.proofs.Places.{opened-own, opened-key, place-of}
 use Rattle.judge.specs.Limits.{configOk}
 use Rattle.block_handler.specs.Call.{World, Call, Done, callAt, rowOf, call}
 use Rattle.block_handler.proofs.Frame.{WorldFits, call-fits, other-keeps}
-use Rattle.demands.specs.Demand3.{after, All, AllBytes, entryAt}
+use Rattle.one_call.specs.Handler.{entryAt}
+use Rattle.one_call.proofs.Outcomes.{placeOf, openedOf, storing-assembled, early-or-placed}
+use Rattle.demands.specs.Demand3.{after, All, AllBytes}
 use Rattle.demands.specs.Clocks.{asks, requestsOn}
-use Rattle.demands.proofs.Outcomes.{placeOf, openedOf, storing-assembled, early-or-placed}
 
 lifetime-least : (c : Config) → configOk c ≡ true → 0 < c .lifetime
 unfolding configOk

@@ -29,12 +29,12 @@ use Rattle.block_state.specs.State.{assembly, withAssembled, withRecorded}
 use Rattle.block_state.specs.Step.{left, bytesFrom}
 use Rattle.request_block1.specs.Block1.{badForm, notNext, lengthMet}
 use Rattle.request_step.specs.Step.{stepRequest}
+use Rattle.pairing.proofs.Pairing.{pairing}
+use Rattle.one_call.specs.Agreed.{requestAgrees}
+use Rattle.one_call.specs.Strict.{BadlyFormed}
+use Rattle.one_call.proofs.Checks.{and-none, bad-not, NextAt, next-passes, first-passes, first-starts, meets-all, meets-afresh}
+use Rattle.one_call.proofs.Step.{step-more, step-last}
 use Rattle.demands.specs.Demand3.{block, Fills}
-use Rattle.demands.specs.Agreed.{requestAgrees}
-use Rattle.demands.specs.Strict.{BadlyFormed}
-use Rattle.demands.proofs.Checks.{and-none, bad-not, NextAt, next-passes, first-passes, first-starts, meets-all, meets-afresh}
-use Rattle.demands.proofs.Step.{step-more, step-last}
-use Rattle.demands.proofs.Pairing.{pairing}
 
 -- ---- a block as the client sends it
 

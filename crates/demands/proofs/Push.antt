@@ -40,12 +40,10 @@ use Rattle.judge.specs.Limits.{configOk}
 use Rattle.answers.specs.Parts.{partOf}
 use Rattle.block_handler.specs.Call.{World, Call, whatOk, call}
 use Rattle.block_handler.proofs.Frame.{WorldFits, Took, request-took, call-fits}
-use Rattle.demands.specs.Demand3.{Seen, seen, after, Sent, callOn, block, Each, Fills, joined, Prompt, AllBytes, entryAt}
-use Rattle.demands.specs.Demand3.{HasLive, HasFree, NothingInPlain, Blocks, HandsOn}
+use Rattle.one_call.specs.Handler.{entryAt}
+use Rattle.one_call.proofs.Checks.{NextAt, next-same}
+use Rattle.demands.specs.Demand3.{Seen, seen, after, Sent, callOn, block, Each, Fills, joined, Prompt, AllBytes, HasLive, HasFree, NothingInPlain, Blocks, HandsOn, lastOf}
 use Rattle.demands.specs.Clocks.{requestsOn, runOn, OwnRising}
-use Rattle.demands.specs.Touch.{HandsTo}
-use Rattle.demands.specs.Twice.{lastOf}
-use Rattle.demands.proofs.Checks.{NextAt, next-same}
 use Rattle.demands.proofs.OwnStep.{OneBlock, fills-most, Meets, meets-first, UnderWay, meets-next, held-after, own-more, own-last, under-way}
 use Rattle.demands.proofs.Runs.{asks-own, all-front, all-behind, after-cut, seen-cut, none-seen, Cut, cut, rising-cut, after-clock}
 use Rattle.demands.proofs.Held.{Held, held-place, held-opened, held-others}
@@ -178,7 +176,7 @@ module _ (c : Config) (w : World) (k : Name) (b : BlockValue) (s : Sent) (bytes 
       let t = rw (own-more c home away state piece (s .message) b one bytes (g .meets) fit more) at took in
       (rw (t .answer), rw (t .entry, t .piece) (under-way c home away state piece (s .message) b one bytes (g .meets) fit more n next))
 
-  block-last : b .more ≡ false → HandsTo joins call c w (callOn k s) × (entryAt then here .state .assembled ≡ assembly 0 0)
+  block-last : b .more ≡ false → HandsOn joins (seen (callOn k s) (call c w (callOn k s)) ∷ []) × (entryAt then here .state .assembled ≡ assembly 0 0)
   block-last last =
       let t = rw (own-last c home away state piece (s .message) b one bytes (g .meets) fit last) at took in
       let f = call-fits c w (callOn k s) hb (g .fits) in

@@ -17,9 +17,10 @@ use Rattle.block_table.proofs.TableFits as fits
 use Rattle.judge.specs.Limits.{memoriesOk}
 use Rattle.block_handler.specs.Call.{World, Call, callAt, rowOf, call}
 use Rattle.block_handler.proofs.Frame.{WorldFits, call-fits, call-cases}
-use Rattle.demands.specs.Demand3.{Handler, run, after, callsOn, seenOn, Sent, callOn, All, AllBytes, Rising, Fresh, entryAt}
+use Rattle.one_call.specs.Handler.{Handler, entryAt}
+use Rattle.one_call.proofs.Outcomes.{placeOf, openedOf}
+use Rattle.demands.specs.Demand3.{run, after, callsOn, seenOn, Sent, callOn, All, AllBytes, Rising, Fresh}
 use Rattle.demands.specs.Clocks.{asks, requestsOn, runOn, OwnRising}
-use Rattle.demands.proofs.Outcomes.{placeOf, openedOf}
 
 -- ---- calls cut in two
 

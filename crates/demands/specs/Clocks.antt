@@ -11,7 +11,8 @@ use Rattle.config.specs.declared.Config.{Config}
 use Rattle.block_state.specs.Message.{What, request, response}
 use Rattle.keys.specs.Keys.{Name, same}
 use Rattle.block_handler.specs.Call.{World, Call}
-use Rattle.demands.specs.Demand3.{Handler, Seen, seen, Sent, callOn, joined, HasLive, HasFree, NothingInPlain, Push, HandsOn, Demand3}
+use Rattle.one_call.specs.Handler.{Handler}
+use Rattle.demands.specs.Demand3.{Seen, seen, Sent, callOn, joined, HasLive, HasFree, NothingInPlain, Push, HandsOn, Demand3}
 
 abbrev pub isRequest : What → Bool
 isRequest (request r) = true

@@ -18,7 +18,8 @@ use Rattle.block_handler.specs.Call.{World, Call, Done, call}
 use Rattle.block_handler.specs.Contract.{world, requestCall, responseCall, Meant}
 use Rattle.block_handler.proofs.intercept_request
 use Rattle.block_handler.proofs.intercept_response
-use Rattle.demands.specs.Demand3.{Handler, Seen, seen, run, after, seenOn, Sent, callOn, joined, Granted, HandsOn}
+use Rattle.one_call.specs.Handler.{Handler}
+use Rattle.demands.specs.Demand3.{Seen, seen, run, after, seenOn, Sent, callOn, joined, Granted, HandsOn}
 
 -- ---- What the compiled calls ensure, and that they ask nothing
 

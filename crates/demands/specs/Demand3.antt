@@ -17,19 +17,15 @@ use Rattle.config.specs.declared.Config.{Config}
 use Rattle.block_state.specs.declared.Answer.{Answer}
 use Rattle.block_state.specs.Message.{Request, What, request, response, WhatBytes}
 use Rattle.apart.specs.Answers.{said, continue, handed}
-use Rattle.entries.specs.declared.Entry.{Entry}
 use Rattle.keys.specs.Keys.{Name, same}
 use Rattle.entries.specs.Entries.{holds, live}
-use Rattle.block_table.specs.Table.{at, freshTable}
+use Rattle.block_table.specs.Table.{freshTable}
 use Rattle.judge.specs.Limits.{configOk, memoriesOk}
 use Rattle.block_handler.specs.Call.{World, Call, Done, withinLimits}
 use Rattle.answers.specs.Parts.{bodyOf}
+use Rattle.one_call.specs.Handler.{Handler, entryAt}
 
 -- ---- A handler, and what is seen of its run
-
--- Any function from the configuration, the table and memories, and a call, to what is left of them and the answer.
-abbrev pub Handler : Type 0
-Handler = Config → World → Call → Done
 
 -- Of one call: its key, its answer, and the body that is then shown, of the call's own payload and the upload memory that it left.
 pub record Seen : Type 0 where
@@ -92,6 +88,11 @@ abbrev pub joined : Sent → List Sent → List ℕ
 joined s [] = s .message .payload
 joined s (t ∷ rest) = s .message .payload ++ joined t rest
 
+-- The last of the client's blocks. (Demand 3 does not ask for it; other promises do.)
+abbrev pub lastOf : Sent → List Sent → Sent
+lastOf s [] = s
+lastOf s (t ∷ rest) = lastOf t rest
+
 -- Each block's time is less than one lifetime past the time of the one before it.
 abbrev pub Prompt : ℕ → ℕ → List Sent → Type 0
 Prompt lifetime last [] = Unit {0}
@@ -119,9 +120,6 @@ pub record Fresh (c : Config) (w : World) : Type 0 where
   pub memories : memoriesOk c (length (w .upload)) (length (w .response)) ≡ true
 
 -- ---- The key's entry, when its first block comes at this time
-
-abbrev pub entryAt : World → ℕ → Entry
-entryAt w i = at (w .table .entries) i
 
 -- "A live entry": one of the sixteen is in use for the key, and live.
 abbrev pub HasLive : Config → World → ℕ → Name → Type 0

@@ -1,16 +1,3 @@
-pub mod Cases
 pub mod Demand3
 pub mod Clocks
 pub mod Compiled
-pub mod Incident
-pub mod Shams
-pub mod Touch
-pub mod Twice
-pub mod Crossing
-pub mod Strict
-pub mod Pairing
-pub mod Agreed
-pub mod Pages
-pub mod Given
-pub mod Refusals
-pub mod Uploads

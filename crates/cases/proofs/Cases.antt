@@ -1,0 +1,26 @@
+-- Document 01's cases 1 to 12, and those of strict mode, hold of the definitions, by computation. Assumes nothing.
+use Prim.Native.Nat.{ℕ, zero, suc}
+use mathlib.Core.Bool.{Bool}
+use mathlib.Core.Path.{refl}
+use mathlib.Core.List.{List, [], _∷_}
+use lib.ListN.{take, drop}
+use Rattle.cases.specs.Cases.{Row, AllSay, cases}
+use Rattle.cases.specs.StrictCases.{strictCases}
+use Rattle.cases.proofs.Computes.{steps}
+
+-- the first n rows hold, and the others
+halves : (n : ℕ) (l : List Row) → AllSay (take n l) → AllSay (drop n l) → AllSay l
+halves zero l front behind = behind
+halves (suc n) [] front behind = tt
+halves (suc n) (r ∷ l) front behind = (front .0, halves n l (front .1) behind)
+
+pub cases-hold : (strict : Bool) → AllSay (cases strict)
+unfolding steps
+cases-hold strict =
+    halves 15 (cases strict)
+    (refl, (refl, (refl, (refl, (refl, (refl, (refl, (refl, (refl, (refl, (refl, (refl, (refl, (refl, (refl, tt)))))))))))))))
+    (refl, (refl, (refl, (refl, (refl, (refl, (refl, (refl, (refl, (refl, (refl, (refl, (refl, (refl, tt))))))))))))))
+
+pub strict-cases : AllSay strictCases
+unfolding steps
+strict-cases = (refl, (refl, (refl, (refl, (refl, (refl, (refl, (refl, (refl, (refl, (refl, (refl, (refl, tt)))))))))))))

@@ -1,0 +1,5 @@
+pub mod Computes
+pub mod Cases
+pub mod Incident
+pub mod Shams
+pub mod Given

@@ -1,0 +1,5 @@
+pub mod Cases
+pub mod StrictCases
+pub mod Incident
+pub mod Shams
+pub mod Given

@@ -1,0 +1,41 @@
+-- Cases of strict mode, beside document 01's cases 1 to 12, as rows of a table of their own (T 1152, U 64, bare 20). The block value of an answer is the reply's: its "more" is
+-- as negotiated, not as sent.
+use mathlib.Core.Bool.{true, false}
+use mathlib.Core.List.{List, [], _∷_}
+use lib.ListN.{replicate}
+use Rattle.block_state.specs.declared.BlockState.{BlockState}
+use Rattle.block_state.specs.declared.Answer.the-variants.{Continue, Handed, Refused}
+use Rattle.apart.specs.Answers.{said}
+use Rattle.block_state.specs.State.{assembly, nothing, withAssembled}
+use Rattle.block_state.specs.Step.{bytesFrom}
+use Rattle.demands.specs.Demand3.{block}
+use Rattle.cases.specs.Cases.{Row, answers, number, step}
+
+-- 32 bytes are assembled, and the kept exponent is 0 (size 16).
+abbrev pub kept : BlockState
+kept = withAssembled nothing (assembly 32 0)
+
+abbrev pub strictCases : List Row
+strictCases =
+    -- L 32 kept at size 16, num 1 of size 32: it starts at L, but has another exponent. Refusal 9; plain mode takes it.
+    answers (step true kept (replicate 64 1) (0x19 ∷ []) (replicate 32 2) .answer) (Refused 9)
+    ∷ answers (step false kept (replicate 64 1) (0x19 ∷ []) (replicate 32 2) .answer) (Continue (block 1 false 1))
+    -- Num 1 of size 16: an earlier offset. Refusal 9; plain mode takes it.
+    ∷ answers (step true kept (replicate 64 1) (0x18 ∷ []) (replicate 16 2) .answer) (Refused 9)
+    ∷ answers (step false kept (replicate 64 1) (0x18 ∷ []) (replicate 16 2) .answer) (Continue (block 1 false 0))
+    -- Num 2 of size 16: the next. Taken.
+    ∷ answers (step true kept (replicate 64 1) (0x28 ∷ []) (replicate 16 2) .answer) (Continue (block 2 false 0))
+    -- Exponent 7 with a short unmarked payload, num 0. Refusal 10; plain mode takes it.
+    ∷ answers (step true nothing (replicate 64 1) (0x07 ∷ []) (replicate 4 2) .answer) (Refused 10)
+    ∷ answers (step false nothing (replicate 64 1) (0x07 ∷ []) (replicate 4 2) .answer) (Handed (block 0 false 6) (bytesFrom 0 4))
+    -- A payload longer than its size; one that is marked and short. Refusal 10.
+    ∷ answers (step true nothing (replicate 64 1) [] (replicate 17 2) .answer) (Refused 10)
+    ∷ answers (step true nothing (replicate 64 1) (0x08 ∷ []) (replicate 15 2) .answer) (Refused 10)
+    -- Both faults at once: nothing assembled, num 1, marked and short. Refusal 10, not 9.
+    ∷ answers (step true nothing (replicate 64 1) (0x18 ∷ []) (replicate 15 2) .answer) (Refused 10)
+    -- "In either mode that of the last block taken": plain mode, too, keeps the exponent of a block of 32 bytes.
+    ∷ number (step false nothing (replicate 64 1) (0x09 ∷ []) (replicate 32 2) .state .assembled .exponent) 1
+    -- Refusal 9 is 4.08, and 10 is 4.00.
+    ∷ number (said (Refused 9) .code) 136
+    ∷ number (said (Refused 10) .code) 128
+    ∷ []

@@ -1,0 +1,6 @@
+pub mod Known
+pub mod Twice
+pub mod Sixteen
+pub mod Crossing
+pub mod Pages
+pub mod Uploads

@@ -1,0 +1,4 @@
+pub mod Twice
+pub mod Crossing
+pub mod Pages
+pub mod Uploads

@@ -1,0 +1,177 @@
+-- What a step comes to, a law for each branch that the proofs need, and what the mode decides in it. Here and in Outcomes.antt alone they look into the steps. Assumes
+-- nothing.
+use Prim.Native.Nat.{ℕ}
+use mathlib.Core.Bool.{true, false, cond, false≢true, _&&_}
+use mathlib.Core.Path.{_≡_, refl, sym, _∙_, ap}
+use mathlib.Core.List.{List, [], _∷_}
+use mathlib.Core.Option.{Option, none, some}
+use lib.ListN.{length}
+use Rattle.splicing.specs.Splice.{spliceOf, pieceAfter}
+use Rattle.splicing.specs.declared.Splice.{Splice}
+use Rattle.splicing.specs.declared.Splice.the-variants as splice
+use Rattle.block_value.specs.Value.{made, readOf, blockSize, blockStart}
+use Rattle.block_value.specs.declared.BlockValue.{BlockValue}
+use Rattle.negotiation.specs.Negotiation.{requestBlock, negotiated, within, replyAt}
+use Rattle.negotiation.specs.declared.MaybeBlock.{MaybeBlock}
+use Rattle.negotiation.specs.declared.MaybeBlock.the-variants.{Absent, Given}
+use Rattle.negotiation.specs.declared.Negotiated.{Negotiated}
+use Rattle.negotiation.specs.declared.Negotiated.the-variants as agreed
+use Rattle.negotiation.specs.declared.Chunk.{Chunk}
+use Rattle.negotiation.specs.declared.Chunk.the-variants as chunk
+use Rattle.config.specs.declared.Config.{Config}
+use Rattle.block_state.specs.declared.BlockState.{BlockState}
+use Rattle.block_state.specs.declared.Answer.the-variants.{Continue, Handed, Plain, Refused}
+use Rattle.block_state.specs.Message.{Request, Response}
+use Rattle.block_state.specs.State.{assembly, recordedBlock, withAssembled, withRecorded}
+use Rattle.block_state.specs.Step.{Left, left, bytesFrom}
+use Rattle.request_block1.specs.declared.Taken.{Taken}
+use Rattle.request_block1.specs.declared.Taken.the-variants as block
+use Rattle.request_block1.specs.Block1.{badForm, notNext, lengthMet, takenAs, taken, pieceTaken}
+use Rattle.request_step.specs.Step.{onTaken, block1Given, onNegotiated, stepRequest}
+use Rattle.request_block1.proofs.Taking.{taken-bad, taken-not-next, taken-next}
+use Rattle.request_block2.proofs.Serving.{onward-absent}
+use Rattle.request_step.proofs.Steps as steps
+use Rattle.response_step.specs.Step.{chunked, onReply, stepResponse}
+use Rattle.one_call.specs.Agreed.{requestAgrees}
+use Rattle.one_call.specs.Strict.{plainly}
+use Rattle.one_call.proofs.Checks.{meets-all}
+
+-- ---- the mode decides nothing in what is read and negotiated
+
+read-plainly : (c : Config) (o : Option (List ℕ)) → requestBlock c o ≡ requestBlock (plainly c) o
+unfolding requestBlock readOf
+read-plainly c none = refl
+read-plainly c (some []) = refl
+read-plainly c (some (x ∷ [])) = refl
+read-plainly c (some (x ∷ y ∷ [])) = refl
+read-plainly c (some (x ∷ y ∷ v ∷ l)) = refl
+
+agreed-plainly : (c : Config) (b : MaybeBlock) (bare p : ℕ) → negotiated c b bare p ≡ negotiated (plainly c) b bare p
+unfolding negotiated within replyAt made
+agreed-plainly c Absent bare p = refl
+agreed-plainly c (Given b) bare p = refl
+
+-- ---- a request's step
+
+module _ (c : Config) (home away : ℕ) (s : BlockState) (u : List ℕ) (r : Request) where
+  abbrev p : ℕ
+  p = length (r .payload)
+
+  abbrev block2 : MaybeBlock
+  block2 = requestBlock c (r .block2)
+
+  abbrev step : Left
+  step = stepRequest c home away s u r
+
+  pub step-unagreed : (n : ℕ) → requestAgrees c r ≡ agreed.Refused n → step ≡ left s u (Refused n)
+  unfolding stepRequest
+  step-unagreed n e = steps.step-refused c home away s u block2 (r .payload) (requestBlock c (r .block1)) (requestAgrees c r) n e
+
+  -- block b was agreed on
+  module _ (b reply : BlockValue) (given : requestBlock c (r .block1) ≡ Given b) (reached : requestAgrees c r ≡ agreed.Block reply) where
+    goes-on : (t : Taken) → taken c (s .assembled) b p ≡ t
+        → step ≡ onTaken home away s (pieceTaken c (s .assembled) u b (r .payload) t) block2 (b .«size_exponent») reply t
+    unfolding stepRequest
+    goes-on t e = steps.step-given c home away s u block2 (r .payload) (requestBlock c (r .block1)) (requestAgrees c r) reply reached b t given (sym e)
+
+    pub step-bad : (c .strict && badForm b p) ≡ true → step ≡ left s u (Refused 10)
+    step-bad bad = goes-on (block.Refused 10) (taken-bad c (s .assembled) b p bad)
+
+    module _ (good : (c .strict && badForm b p) ≡ false) where
+      pub step-astray : (c .strict && notNext (s .assembled) b) ≡ true → step ≡ left s u (Refused 9)
+      step-astray away-from = goes-on (block.Refused 9) (taken-not-next c (s .assembled) b p good away-from)
+
+      -- both checks let it pass, and it meets l bytes
+      module _ (next : (c .strict && notNext (s .assembled) b) ≡ false) (l : ℕ) (met : lengthMet (c .strict) (s .assembled) b ≡ l) where
+        abbrev spliced : Splice
+        spliced = spliceOf (c .upload) l (blockStart b) (blockSize b) p
+
+        is-taken : (x : Splice) → spliced ≡ x → taken c (s .assembled) b p ≡ takenAs (b .more) x
+        is-taken x e =
+            let meeting : spliceOf (c .upload) (lengthMet (c .strict) (s .assembled) b) (blockStart b) (blockSize b) p ≡ x = rw met e in
+            taken-next c (s .assembled) b p good next ∙ ap (takenAs (b .more)) meeting
+
+        pub step-unspliced : (n : ℕ) → spliced ≡ splice.Refused n → step ≡ left s u (Refused n)
+        step-unspliced n e = goes-on (block.Refused n) (is-taken (splice.Refused n) e)
+
+        -- it is spliced: the body has n bytes, and stands in the piece v
+        module _ (n : ℕ) (v : List ℕ) (body : spliced ≡ splice.Body n) (piece : pieceAfter u l (blockStart b) (blockSize b) (r .payload) ≡ v) where
+          pub step-more : b .more ≡ true → step ≡ left (withAssembled s (assembly n (b .«size_exponent»))) v (Continue reply)
+          step-more more = goes-on (block.More n) (is-taken (splice.Body n) body ∙ rw more) ∙ rw (met, piece)
+
+          pub step-last : b .more ≡ false → requestBlock c (r .block2) ≡ Absent
+              → step ≡ left (withRecorded (withAssembled s (assembly 0 0)) Absent) v (Handed reply (bytesFrom home n))
+          step-last last alone =
+              goes-on (block.Body n) (is-taken (splice.Body n) body ∙ rw last)
+              ∙ rw (met, piece, alone)
+              (onward-absent away (withAssembled s (assembly 0 0)) v Absent (Given reply) (Handed reply (bytesFrom home n)) refl)
+
+  -- ---- the mode
+
+  -- the mode has nothing to say of block b: neither check is against it, and it meets all that is assembled
+  pub record Unchecked (b : BlockValue) : Type 0 where
+    pub good : (c .strict && badForm b p) ≡ false
+    pub next : (c .strict && notNext (s .assembled) b) ≡ false
+    pub all : lengthMet (c .strict) (s .assembled) b ≡ s .assembled .len
+
+  module _ (b reply : BlockValue) (k : Unchecked b) where
+    met-same : lengthMet (c .strict) (s .assembled) b ≡ lengthMet false (s .assembled) b
+    met-same = k .all ∙ sym (meets-all false (s .assembled) b (λ e. absurd (false≢true e)))
+
+    taken-same : taken c (s .assembled) b p ≡ taken (plainly c) (s .assembled) b p
+    taken-same =
+        taken-next c (s .assembled) b p (k .good) (k .next)
+        ∙ ap (λ (l : ℕ). takenAs (b .more) (spliceOf (c .upload) l (blockStart b) (blockSize b) p)) met-same
+        ∙ sym (taken-next (plainly c) (s .assembled) b p refl refl)
+
+    piece-same : (t : Taken) → pieceTaken c (s .assembled) u b (r .payload) t ≡ pieceTaken (plainly c) (s .assembled) u b (r .payload) t
+    piece-same (block.Refused n) = refl
+    piece-same (block.More n) = rw met-same
+    piece-same (block.Body n) = rw met-same
+
+    given-same : block1Given c home away s u block2 (r .payload) b reply ≡ block1Given (plainly c) home away s u block2 (r .payload) b reply
+    unfolding block1Given
+    given-same =
+        let t : Taken = taken (plainly c) (s .assembled) b p in
+        rw taken-same (ap (λ (v : List ℕ). onTaken home away s v block2 (b .«size_exponent») reply t) (piece-same t))
+
+  on-same : (block1 : MaybeBlock) (n : Negotiated) → ((b : BlockValue) → block1 ≡ Given b → Unchecked b)
+      → onNegotiated c home away s u block2 (r .payload) block1 n ≡ onNegotiated (plainly c) home away s u block2 (r .payload) block1 n
+  unfolding onNegotiated
+  on-same block1 (agreed.Refused n) unchecked = refl
+  on-same block1 agreed.NoBlock unchecked = refl
+  on-same Absent (agreed.Block reply) unchecked = refl
+  on-same (Given b) (agreed.Block reply) unchecked = given-same b reply (unchecked b refl)
+
+  -- then the step is plain mode's
+  pub step-plainly : ((b : BlockValue) → requestBlock c (r .block1) ≡ Given b → Unchecked b) → step ≡ stepRequest (plainly c) home away s u r
+  unfolding stepRequest
+  step-plainly unchecked =
+      rw (← read-plainly c (r .block1), ← read-plainly c (r .block2), ← agreed-plainly c (requestBlock c (r .block1)) (r .bare) p)
+      (on-same (requestBlock c (r .block1)) (requestAgrees c r) unchecked)
+
+-- ---- a response's step
+
+module _ (c : Config) (s : BlockState) (d : List ℕ) (r : Response) where
+  pub response-unagreed : r .own ≡ false → (n : ℕ) → negotiated c (recordedBlock (s .recorded)) (r .bare) (length (r .payload)) ≡ agreed.Refused n
+      → stepResponse c s d r ≡ left s d (Refused n)
+  unfolding stepResponse onReply
+  response-unagreed own n e = rw (own, e)
+
+  chunk-same : (ch : Chunk) → chunked c s d (r .head) (r .payload) ch ≡ chunked (plainly c) s d (r .head) (r .payload) ch
+  unfolding chunked
+  chunk-same (chunk.Refused n) = refl
+  chunk-same (chunk.Bytes b from to) = refl
+
+  reply-same : (n : Negotiated) → onReply c s d (r .head) (r .payload) n ≡ onReply (plainly c) s d (r .head) (r .payload) n
+  unfolding onReply
+  reply-same (agreed.Refused n) = refl
+  reply-same agreed.NoBlock = refl
+  reply-same (agreed.Block b) = chunk-same _
+
+  -- the mode decides nothing in it
+  pub response-plainly : stepResponse c s d r ≡ stepResponse (plainly c) s d r
+  unfolding stepResponse
+  response-plainly =
+      rw (← agreed-plainly c (recordedBlock (s .recorded)) (r .bare) (length (r .payload)))
+      (ap (λ (g : Left). cond (r .own) (left s d Plain) g) (reply-same _))

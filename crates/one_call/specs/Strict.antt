@@ -1,0 +1,105 @@
+-- STRICT MODE SAYS NO. Whatever the table, the memories and the call: in strict mode no block is taken unless it is well formed and, but for block 0,
+-- the next. And a block that passes checks 1 to 5 and is not gets 10 or 9, 10 before 9, and changes nothing but the touch.
+use Prim.Native.Nat.{ℕ, _≤_, _<_}
+use mathlib.Core.Bool.{Bool, true, false}
+use mathlib.Core.Path.{_≡_}
+use mathlib.Core.Logic.{_⊎_}
+use lib.ListN.{length}
+use Rattle.block_value.specs.Value.{blockSize, blockStart}
+use Rattle.block_value.specs.declared.BlockValue.{BlockValue}
+use Rattle.negotiation.specs.Negotiation.{requestBlock, negotiated}
+use Rattle.negotiation.specs.declared.MaybeBlock.{MaybeBlock}
+use Rattle.negotiation.specs.declared.MaybeBlock.the-variants.{Absent, Given}
+use Rattle.negotiation.specs.declared.Negotiated.the-variants.{Block}
+use Rattle.config.specs.declared.Config.{Config}
+use Rattle.block_state.specs.declared.Assembled.{Assembled}
+use Rattle.block_state.specs.declared.Answer.{Answer}
+use Rattle.block_state.specs.declared.Answer.the-variants.{Continue, TooLarge, Handed, Pass, Served, Plain, Whole, First, Refused}
+use Rattle.block_state.specs.Message.{Request, Response, request, response}
+use Rattle.places.specs.Places.{opened}
+use Rattle.block_handler.specs.Call.{World, Call, rowOf}
+use Rattle.one_call.specs.Handler.{Handler}
+use Rattle.one_call.specs.Touch.{Placed, RefusesTo}
+
+abbrev pub isGiven : MaybeBlock → Bool
+isGiven Absent = false
+isGiven (Given b) = true
+
+-- The answer took a block: Continue, Handed, or a Served that carries Block1 too.
+abbrev pub tookBlock : Answer → Bool
+tookBlock (Continue b) = true
+tookBlock (TooLarge b) = false
+tookBlock (Handed b body) = true
+tookBlock Pass = false
+tookBlock (Served s) = isGiven (s .block1)
+tookBlock Plain = false
+tookBlock (Whole b chunk) = false
+tookBlock (First b chunk) = false
+tookBlock (Refused n) = false
+
+-- What the call's key has assembled when the call comes: the length L and the kept exponent; zeros where it has no live entry.
+abbrev pub assembledFor : Config → World → Call → Assembled
+assembledFor c w q = opened (q .key) (rowOf c w q) .state .assembled
+
+-- ---- A block that was taken
+
+pub record RightlyTaken (c : Config) (l : Assembled) (r : Request) (b : BlockValue) : Type 0 where
+  -- b is the request's Block1 value.
+  pub given : requestBlock c (r .block1) ≡ Given b
+  -- Its exponent is at most 6, its payload no longer than its size, and just as long if it is marked "more".
+  pub exponent : b .«size_exponent» ≤ 6
+  pub short : length (r .payload) ≤ blockSize b
+  pub full : b .more ≡ true → length (r .payload) ≡ blockSize b
+  -- If it is not block 0, it starts where the assembly ends, and has the exponent that was kept.
+  pub next : (b .num ≡ 0 → ⊥) → (blockStart b ≡ l .len) × (b .«size_exponent» ≡ l .exponent)
+
+-- ---- A block that is refused
+
+-- Badly formed: exponent 7, or longer than its size, or marked and not full.
+abbrev pub BadlyFormed : BlockValue → ℕ → Type 0
+BadlyFormed b p = (b .«size_exponent» ≡ 7) ⊎ (blockSize b < p) ⊎ ((b .more ≡ true) × (p ≡ blockSize b → ⊥))
+
+-- Misplaced: not block 0, and not at the end of the assembly with the kept exponent.
+abbrev pub Misplaced : Assembled → BlockValue → Type 0
+Misplaced l b = (b .num ≡ 0 → ⊥) × ((blockStart b ≡ l .len) × (b .«size_exponent» ≡ l .exponent) → ⊥)
+
+-- A request with Block1 value b that passes checks 1 to 3 (`Placed`), and 4 and 5: a block is agreed on.
+pub record PassesFive (c : Config) (w : World) (q : Call) (r : Request) (b : BlockValue) : Type 0 where
+  pub asks : q .what ≡ request r
+  pub given : requestBlock c (r .block1) ≡ Given b
+  pub placed : Placed c w q
+  pub reply : BlockValue
+  pub agreed : negotiated c (Given b) (r .bare) (length (r .payload)) ≡ Block reply
+
+-- ---- All else
+
+-- The same configuration, in plain mode.
+abbrev pub plainly : Config → Config
+plainly c = record { strict = false; limit = c .limit; lifetime = c .lifetime; upload = c .upload; response = c .response }
+
+-- A block that strict mode has nothing to say of: well formed, not misplaced, and if it is block 0, over nothing assembled.
+pub record Fine (l : Assembled) (p : ℕ) (b : BlockValue) : Type 0 where
+  pub well : BadlyFormed b p → ⊥
+  pub next : Misplaced l b → ⊥
+  pub afresh : b .num ≡ 0 → l .len ≡ 0
+
+pub record StrictSaysNo (h : Handler) : Type 0 where
+  -- Any answer that took a block took it rightly.
+  pub taken : (c : Config) (w : World) (q : Call) (r : Request) → c .strict ≡ true → q .what ≡ request r → tookBlock (h c w q .answer) ≡ true
+      → (b : BlockValue) × RightlyTaken c (assembledFor c w q) r b
+  -- Badly formed: 10, misplaced or not. (So 10 stands before 9.)
+  pub ten : (c : Config) (w : World) (q : Call) (r : Request) (b : BlockValue) → c .strict ≡ true → PassesFive c w q r b
+      → BadlyFormed b (length (r .payload)) → RefusesTo 10 h c w q
+  -- And 10 only then, in strict mode.
+  pub tenOnly : (c : Config) (w : World) (q : Call) (r : Request) → q .what ≡ request r → h c w q .answer ≡ Refused 10
+      → (c .strict ≡ true) × (b : BlockValue) × (requestBlock c (r .block1) ≡ Given b) × BadlyFormed b (length (r .payload))
+  -- Well formed and misplaced: 9.
+  pub nine : (c : Config) (w : World) (q : Call) (r : Request) (b : BlockValue) → c .strict ≡ true → PassesFive c w q r b
+      → (BadlyFormed b (length (r .payload)) → ⊥) → Misplaced (assembledFor c w q) b → RefusesTo 9 h c w q
+  -- And 9 only then, in strict mode.
+  pub nineOnly : (c : Config) (w : World) (q : Call) (r : Request) → q .what ≡ request r → h c w q .answer ≡ Refused 9
+      → (c .strict ≡ true) × (b : BlockValue) × (requestBlock c (r .block1) ≡ Given b) × (BadlyFormed b (length (r .payload)) → ⊥) × Misplaced (assembledFor c w q) b
+  -- "All else is as in plain mode": a request with no Block1 value or a fine one, and any response, is answered and leaves just what it does in plain mode.
+  pub allElse : (c : Config) (w : World) (q : Call) (r : Request) → q .what ≡ request r
+      → ((b : BlockValue) → requestBlock c (r .block1) ≡ Given b → Fine (assembledFor c w q) (length (r .payload)) b) → h c w q ≡ h (plainly c) w q
+  pub responses : (c : Config) (w : World) (q : Call) (r : Response) → q .what ≡ response r → h c w q ≡ h (plainly c) w q
