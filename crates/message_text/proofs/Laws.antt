@@ -7,11 +7,12 @@ use lib.ListN.{length, take, drop, length-take, length-drop}
 use lib.Seq.{drop-drop}
 use Rattle.pieces.specs.Memory.{Put}
 use Rattle.pieces.proofs.Puts.{put-length, put-none, put-then, put-as}
-use Rattle.message.specs.Format.{CoapOption, options, nextIn, optionsOf}
-use Rattle.message.specs.Reader.{counted, nextAt}
-use Rattle.message.specs.declared.Next.{Next}
-use Rattle.message.specs.declared.Next.the-variants.{Option, End, Malformed}
-use Rattle.message.proofs.Laws.{no-options, first-tells, options-end, options-bad, at-bounds}
+use Rattle.message_format.specs.Format.{CoapOption, options, nextIn, optionsOf}
+use Rattle.one_option.specs.Index.{counted, nextAt}
+use Rattle.message_format.specs.declared.Next.{Next}
+use Rattle.message_format.specs.declared.Next.the-variants.{Option, End, Malformed}
+use Rattle.message_format.proofs.Laws.{no-options, first-tells, options-end, options-bad}
+use Rattle.one_option.proofs.Laws.{at-bounds}
 use Rattle.message_text.specs.Fields.{optionText}
 use Rattle.message_text.specs.Text.{moreText, optionsText}
 

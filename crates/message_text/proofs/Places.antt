@@ -5,7 +5,7 @@ use Prim.Native.Nat.{ℕ, _+_, _≤_}
 use native.Mathlib.Omega.{arith}
 use lib.ListN.{length, drop}
 use Rattle.pieces.specs.Memory.{within}
-use Rattle.message.specs.Format.{Message, options, Meaning, malformed, means, payloadBytes, optionsOf, meaningOf}
+use Rattle.message_format.specs.Format.{Message, options, Meaning, malformed, means, payloadBytes, optionsOf, meaningOf}
 use Rattle.message.specs.Reader.{packetOf, readingOf, readOf}
 use Rattle.message.specs.declared.Packet.{Packet}
 use Rattle.message.specs.declared.Reading.the-variants as reading

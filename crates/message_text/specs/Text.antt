@@ -4,7 +4,7 @@ use mathlib.Core.Bool.{cond, _&&_}
 use mathlib.Core.List.{List, [], _∷_, _++_}
 use lib.Dec.{leb}
 use lib.ListN.{length}
-use Rattle.message.specs.Format.{CoapOption, Message, Meaning, malformed, means, meaningOf}
+use Rattle.message_format.specs.Format.{CoapOption, Message, Meaning, malformed, means, meaningOf}
 use Rattle.script_text.specs.Text.{shown}
 use Rattle.script.specs.Fields.{isPairs, pairsOf}
 use Rattle.script.specs.declared.Decoded.{Decoded}

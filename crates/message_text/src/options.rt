@@ -5,7 +5,7 @@ ghost use mathlib.Core.List.{List};
 ghost use Prim.Native.Nat.{ℕ, _+_, _-_, _*_, _≤_};
 ghost use lib.ListN.{length, drop};
 ghost use Rattle.pieces.specs.Memory.{Put};
-ghost use Rattle.message.specs.Format.{optionsOf, CoapOption, options};
+ghost use Rattle.message_format.specs.Format.{optionsOf, CoapOption, options};
 ghost use Rattle.message_text.specs.Text.{moreText, optionsText};
 
 // The options from an index on, after one of the number `before`, each behind a comma. Eight bytes for each byte of an option are enough.

@@ -5,7 +5,7 @@ ghost use mathlib.Core.Path.{_≡_};
 ghost use Prim.Native.Nat.{_+_, _*_, _≤_};
 ghost use lib.ListN.{length};
 ghost use Rattle.pieces.specs.Memory.{Put};
-ghost use Rattle.message.specs.Format.{Message, means, meaningOf};
+ghost use Rattle.message_format.specs.Format.{Message, means, meaningOf};
 ghost use Rattle.message.specs.Reader.{readOf};
 ghost use Rattle.message_text.specs.Text.{partsText};
 

@@ -8,7 +8,7 @@ use lib.ListN.{length, getD, take, drop, length-append, length-drop, drop-of-len
 use lib.Seq.{drop-drop, length-take-le}
 use Rattle.pieces.specs.Memory.{Put}
 use Rattle.pieces.proofs.Puts.{put-none, put-then, put-as, put-length}
-use Rattle.message.specs.Format.{optionHead, optionsBytes, optionsOk}
+use Rattle.message_format.specs.Format.{optionHead, optionsBytes, optionsOk}
 use Rattle.message_writer.specs.Writer.{optionsFrom, describes, optionLength}
 use Rattle.message_writer.proofs.Measures.{Fits, AllFit, described, first-fits, rest-fits, drop-next}
 

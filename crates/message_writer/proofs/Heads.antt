@@ -7,7 +7,7 @@ use native.Mathlib.Omega.{arith}
 use lib.Dec.{eqb, leb, ltb}
 use lib.ListN.{length, length-append}
 use borrow.Author.Tests.{ltb-true, leb-true, lt-ltb, le-ltb, le-leb, eq-eqb, ne-eqb}
-use Rattle.message.specs.Format.{nibbleOf, extension, optionHead, payloadBytes}
+use Rattle.message_format.specs.Format.{nibbleOf, extension, optionHead, payloadBytes}
 use Rattle.pieces.proofs.Tests.{same-test}
 
 -- ---- the nibble and what extends it, by the number's size

@@ -9,7 +9,7 @@ use lib.Dec.{leb, eqb}
 use lib.ListN.{length, getD, take, drop, length-append, length-drop, drop-of-length-le}
 use lib.Seq.{drop-cons, drop-drop, length-take-le}
 use borrow.Author.Tests.{leb-true, eqb-true, le-leb, eq-eqb}
-use Rattle.message.specs.Format.{optionsBytes, optionsOk}
+use Rattle.message_format.specs.Format.{optionsBytes, optionsOk}
 use Rattle.message_writer.specs.Writer.{optionsFrom, total, describes, optionLength, optionFits, roomAfterOption, optionsFit, roomAfter}
 use Rattle.message_writer.specs.declared.Room.{Room}
 use Rattle.message_writer.specs.declared.Room.the-variants.{Left, Small}

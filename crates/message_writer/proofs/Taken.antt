@@ -9,7 +9,7 @@ use lib.ListN.{length, drop, length-append}
 use borrow.Author.Tests.{leb-true, le-leb}
 use Rattle.pieces.specs.Memory.{Put}
 use Rattle.pieces.proofs.Puts.{put-as}
-use Rattle.message.specs.Format.{bytesOf, headBytes, optionsBytes, payloadBytes, optionsOk, emptyOk, encodable}
+use Rattle.message_format.specs.Format.{bytesOf, headBytes, optionsBytes, payloadBytes, optionsOk, emptyOk, encodable}
 use Rattle.message_writer.specs.Writer.{Given, Writes, optionsFrom, describes, messageOf, takes, roomAfter, optionsFit, opening}
 use Rattle.message_writer.specs.declared.Writing.the-variants.{Written, Refused}
 use Rattle.message_writer.specs.declared.Room.{Room}

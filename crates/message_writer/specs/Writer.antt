@@ -6,7 +6,7 @@ use mathlib.Core.Path.{_≡_}
 use lib.Dec.{leb, eqb}
 use lib.ListN.{length, take, drop}
 use Rattle.pieces.specs.Memory.{patch}
-use Rattle.message.specs.Format.{CoapOption, Message, headBytes, bytesOf, optionHead, optionsBytes, encodable, optionsOk}
+use Rattle.message_format.specs.Format.{CoapOption, Message, headBytes, bytesOf, optionHead, optionsBytes, encodable, optionsOk}
 use Rattle.message_writer.specs.declared.Writing.{Writing}
 use Rattle.message_writer.specs.declared.Writing.the-variants.{Written, Refused}
 use Rattle.message_writer.specs.declared.Room.{Room}

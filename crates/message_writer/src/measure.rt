@@ -5,7 +5,7 @@ ghost use mathlib.Core.Bool.{cond, true};
 ghost use Prim.Native.Nat.{ℕ, _+_, _≤_};
 ghost use lib.Dec.{leb, eqb};
 ghost use lib.ListN.{length};
-ghost use Rattle.message.specs.Format.{extension, payloadBytes};
+ghost use Rattle.message_format.specs.Format.{extension, payloadBytes};
 ghost use Rattle.message_writer.specs.Writer.{given, takes, roomAfter, roomAfterOption};
 
 // How many bytes extend the nibble of a delta or a length.

@@ -5,7 +5,7 @@ use native.Mathlib.Omega.{arith}
 use lib.ListN.{length}
 use borrow.Author.Needs.{needs}
 use Rattle.pieces.proofs.Puts.{put-as}
-use Rattle.message.specs.Format.{meaningOf}
+use Rattle.message_format.specs.Format.{meaningOf}
 use Rattle.message_text.specs.Fields.{unreadableText}
 use Rattle.message_text.specs.Text.{meaningText}
 use Rattle.message_text.proofs.Lines.{Good, pairs-length, bad-line, good-line, lent-first}

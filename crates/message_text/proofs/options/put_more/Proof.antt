@@ -4,9 +4,9 @@ use Prim.Native.Nat.{ℕ, _-_}
 use native.Mathlib.Omega.{arith}
 use lib.ListN.{length}
 use borrow.Author.Needs.{needs}
-use Rattle.message.specs.Reader.{nextAt}
-use Rattle.message.specs.declared.Next.the-variants.{Option}
-use Rattle.message.proofs.Laws.{BoundedAt, at-bounds}
+use Rattle.one_option.specs.Index.{nextAt}
+use Rattle.message_format.specs.declared.Next.the-variants.{Option}
+use Rattle.one_option.proofs.Laws.{BoundedAt, at-bounds}
 use Rattle.message_text.proofs.Laws.{Walking, walking-start, walking-turn, walking-done, walking-broken, value-length}
 use Rattle.message_text.proofs.options.put_more.Statement.{statement}
 use Rattle.message_text.proofs.options.put_more.Tie as tie

@@ -3,9 +3,9 @@ use native.Mathlib.Omega.{arith}
 use lib.ListN.{length, length-drop}
 use borrow.Author.Needs.{needs}
 use Rattle.pieces.proofs.Puts.{put-then, put-as}
-use Rattle.message.specs.Reader.{nextAt}
-use Rattle.message.specs.declared.Next.the-variants.{Option}
-use Rattle.message.proofs.Laws.{BoundedAt, at-bounds}
+use Rattle.one_option.specs.Index.{nextAt}
+use Rattle.message_format.specs.declared.Next.the-variants.{Option}
+use Rattle.one_option.proofs.Laws.{BoundedAt, at-bounds}
 use Rattle.message_text.proofs.Laws.{value-length, options-over, options-broken, text-none, text-some}
 use Rattle.message_text.proofs.options.put_options.Statement.{statement}
 use Rattle.message_text.proofs.options.put_options.Tie as tie

@@ -6,7 +6,7 @@ use lib.ListN.{length}
 use borrow.Author.Needs.{needs}
 use Rattle.pieces.proofs.Puts.{put-then, put-as}
 use Rattle.script_text.specs.Text.{shown}
-use Rattle.message.specs.Format.{Message, payloadBytes}
+use Rattle.message_format.specs.Format.{Message, payloadBytes}
 use Rattle.message_text.specs.Text.{partsText}
 use Rattle.message_text.proofs.Places.{Read, read-tells, parts-are}
 use Rattle.message_text.proofs.parts.put_parts.Statement.{statement}
