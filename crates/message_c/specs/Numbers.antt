@@ -14,7 +14,8 @@ use Rattle.option_reader.specs.declared.Found.the-variants.{At, Absent}
 use Rattle.option_reader.specs.Reader.{between}
 use Rattle.message_writer.specs.declared.Writing.{Writing}
 use Rattle.message_writer.specs.declared.Writing.the-variants.{Written, Refused}
-use Rattle.message_writer.specs.Writer.{Given, writingOf, outputOf}
+use Rattle.message_measure.specs.Given.{Given}
+use Rattle.message_writer.specs.Writer.{writingOf, outputOf}
 use Rattle.option_table.specs.declared.Length.{Length}
 use Rattle.option_table.specs.declared.Length.the-variants.{Unknown, Allowed, NotAllowed}
 use Rattle.message_c.specs.declared.ReadMessage.{ReadMessage}

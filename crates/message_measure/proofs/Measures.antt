@@ -10,9 +10,10 @@ use lib.ListN.{length, getD, take, drop, length-append, length-drop, drop-of-len
 use lib.Seq.{drop-cons, drop-drop, length-take-le}
 use borrow.Author.Tests.{leb-true, eqb-true, le-leb, eq-eqb}
 use Rattle.message_format.specs.Format.{optionsBytes, optionsOk}
-use Rattle.message_writer.specs.Writer.{optionsFrom, total, describes, optionLength, optionFits, roomAfterOption, optionsFit, roomAfter}
-use Rattle.message_writer.specs.declared.Room.{Room}
-use Rattle.message_writer.specs.declared.Room.the-variants.{Left, Small}
+use Rattle.message_measure.specs.Given.{optionsFrom, total, describes}
+use Rattle.message_measure.specs.Rooms.{optionLength, optionFits, roomAfterOption, optionsFit, roomAfter}
+use Rattle.message_measure.specs.declared.Room.{Room}
+use Rattle.message_measure.specs.declared.Room.the-variants.{Left, Small}
 use Rattle.pieces.proofs.Tests.{and-left, and-right, refute, same-test}
 
 -- ---- one option

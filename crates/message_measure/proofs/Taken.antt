@@ -1,21 +1,19 @@
 -- What the test of a message says, and what the measure makes of it. Assumes nothing.
-use mathlib.Core.Path.{_≡_, refl, sym, ap, _∙_}
+use mathlib.Core.Path.{_≡_, refl, sym, _∙_}
 use mathlib.Core.Bool.{Bool, true, false, cond, _&&_, false≢true}
-use mathlib.Core.List.{List, [], _∷_, _++_}
+use mathlib.Core.List.{List, [], _∷_}
 use Prim.Native.Nat.{ℕ, _+_, _-_, _≤_}
 use native.Mathlib.Omega.{arith}
 use lib.Dec.{leb, eqb}
 use lib.ListN.{length, drop, length-append}
 use borrow.Author.Tests.{leb-true, le-leb}
-use Rattle.pieces.specs.Memory.{Put}
-use Rattle.pieces.proofs.Puts.{put-as}
 use Rattle.message_format.specs.Format.{bytesOf, headBytes, optionsBytes, payloadBytes, optionsOk, emptyOk, encodable}
-use Rattle.message_writer.specs.Writer.{Given, Writes, optionsFrom, describes, messageOf, takes, roomAfter, optionsFit, opening}
-use Rattle.message_writer.specs.declared.Writing.the-variants.{Written, Refused}
-use Rattle.message_writer.specs.declared.Room.{Room}
-use Rattle.message_writer.specs.declared.Room.the-variants.{Left, Small}
+use Rattle.message_measure.specs.Given.{Given, optionsFrom, describes, messageOf, takes}
+use Rattle.message_measure.specs.Rooms.{roomAfter, optionsFit}
+use Rattle.message_measure.specs.declared.Room.{Room}
+use Rattle.message_measure.specs.declared.Room.the-variants.{Left, Small}
 use Rattle.pieces.proofs.Tests.{and-left, and-right, refute, same-test}
-use Rattle.message_writer.proofs.Measures.{described, describes-by, all-fit, fit-all, left-test, small-test}
+use Rattle.message_measure.proofs.Measures.{described, describes-by, all-fit, fit-all, left-test, small-test}
 
 -- the bytes of the options that are given
 abbrev pub optionsOf : Given → List ℕ
@@ -30,10 +28,6 @@ pub record Taken (room : ℕ) (g : Given) : Type 0 where
   pub ok : optionsOk 0 (optionsFrom (g .numbers) (g .lengths) (g .values)) ≡ true
   pub empty : emptyOk (messageOf g) ≡ true
   pub small : 4 + length (g .token) + length (optionsOf g) + length (payloadBytes (g .payload)) ≤ room
-
-pub bytes-are : (g : Given) → bytesOf (messageOf g) ≡ opening (g .messageType) (g .code) (g .messageId) (g .token) ++ (optionsOf g ++ payloadBytes (g .payload))
-unfolding bytesOf headBytes opening
-bytes-are g = refl
 
 pub bytes-length : (g : Given) → length (bytesOf (messageOf g)) ≡ 4 + length (g .token) + length (optionsOf g) + length (payloadBytes (g .payload))
 unfolding bytesOf headBytes
@@ -128,20 +122,3 @@ module _ (room : ℕ) (g : Given) (h : 4 + length (g .token) ≤ room) where
         small = omega (arith, leb-true n left t, p .1, f .small);
       }))
       (λ t. le-leb n left (omega (arith, taken room g t .small, p .1, f .small)))
-
--- ---- as it is written
-
-pub opening-length : (messageType code messageId : ℕ) (token : List ℕ) → length (opening messageType code messageId token) ≡ 4 + length token
-unfolding opening headBytes
-opening-length messageType code messageId token = omega arith
-
-module _ (out : List ℕ) (g : Given) where
-  pub writes-taken : (out′ : List ℕ) (r : ℕ) → takes (length out) g ≡ true
-      → Put out 0 (opening (g .messageType) (g .code) (g .messageId) (g .token) ++ (optionsOf g ++ payloadBytes (g .payload))) out′ r → Writes out g out′ (Written r)
-  writes-taken out′ r t p =
-      let q = put-as p (sym (bytes-are g)) in
-      let n : r ≡ length (bytesOf (messageOf g)) = omega (arith, q .to) in
-      record { answer = rw t (ap Written n); output = rw t (q .is) }
-
-  pub writes-refused : {b : Bool} → b ≡ takes (length out) g → b ≡ false → Writes out g out (Refused 21)
-  writes-refused is e = let t = sym is ∙ e in record { answer = rw t refl; output = rw t refl }

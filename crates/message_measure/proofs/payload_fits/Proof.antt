@@ -1,6 +1,6 @@
-use Rattle.message_writer.proofs.Heads.{none-fits, some-fits}
-use Rattle.message_writer.proofs.measure.payload_fits.Statement.{statement}
-use Rattle.message_writer.proofs.measure.payload_fits.Tie as tie
+use Rattle.message_measure.proofs.Heads.{none-fits, some-fits}
+use Rattle.message_measure.proofs.payload_fits.Statement.{statement}
+use Rattle.message_measure.proofs.payload_fits.Tie as tie
 
 returns : tie.Need-returns
 returns c = none-fits _ _ (c .if1 .taken)

@@ -1,12 +1,18 @@
 // Whether a message is taken, before a byte of it is written.
-use crate::Room;
 ghost use mathlib.Core.Path.{_≡_};
 ghost use mathlib.Core.Bool.{cond, true};
 ghost use Prim.Native.Nat.{ℕ, _+_, _≤_};
 ghost use lib.Dec.{leb, eqb};
 ghost use lib.ListN.{length};
 ghost use Rattle.message_format.specs.Format.{extension, payloadBytes};
-ghost use Rattle.message_writer.specs.Writer.{given, takes, roomAfter, roomAfterOption};
+ghost use Rattle.message_measure.specs.Given.{given, takes};
+ghost use Rattle.message_measure.specs.Rooms.{roomAfter, roomAfterOption};
+
+// What is left of the output, or that it is too small or the options have no encoding.
+enum Room {
+    Left(usize),
+    Small,
+}
 
 // How many bytes extend the nibble of a delta or a length.
 fn extension_length(n: usize) -> usize

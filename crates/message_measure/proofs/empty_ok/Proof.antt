@@ -1,7 +1,7 @@
-use Rattle.message_writer.proofs.Heads.{empty-other, empty-not, empty-payload}
+use Rattle.message_measure.proofs.Heads.{empty-other, empty-not, empty-payload}
 use native.Mathlib.Omega.{arith}
-use Rattle.message_writer.proofs.measure.empty_ok.Statement.{statement}
-use Rattle.message_writer.proofs.measure.empty_ok.Tie as tie
+use Rattle.message_measure.proofs.empty_ok.Statement.{statement}
+use Rattle.message_measure.proofs.empty_ok.Tie as tie
 
 returns : tie.Need-returns
 returns c = let a = c .before .args in empty-other (a .code) (a .token) (a .options) (a .payload) (c .if1 .taken)

@@ -1,13 +1,13 @@
 use Prim.Native.Nat.{_-_}
-use Rattle.message_writer.specs.Writer.{roomAfterOption}
-use Rattle.message_writer.specs.declared.Room.the-variants.{Left, Small}
+use Rattle.message_measure.specs.Rooms.{roomAfterOption}
+use Rattle.message_measure.specs.declared.Room.the-variants.{Left, Small}
 use mathlib.Core.Path.{_≡_, sym, ap, _∙_}
 use native.Mathlib.Omega.{arith}
-use Rattle.message_writer.proofs.Measures.{Fits, option-left, option-small}
-use Rattle.message_writer.proofs.Heads.{head-length}
+use Rattle.message_measure.proofs.Measures.{Fits, option-left, option-small}
+use Rattle.message_measure.proofs.Heads.{head-length}
 use borrow.Author.Needs.{needs}
-use Rattle.message_writer.proofs.measure.option.Statement.{statement}
-use Rattle.message_writer.proofs.measure.option.Tie as tie
+use Rattle.message_measure.proofs.option.Statement.{statement}
+use Rattle.message_measure.proofs.option.Tie as tie
 
 -- what does not fit leaves no room
 small : (s : tie.Start) → let args = s .args in

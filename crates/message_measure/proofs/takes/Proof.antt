@@ -2,11 +2,11 @@ use mathlib.Core.Path.{sym, _∙_}
 use Prim.Native.Nat.{ℕ}
 use native.Mathlib.Omega.{arith}
 use borrow.Author.Tests.{not-true, not-false}
-use Rattle.message_writer.specs.Writer.{Given, given}
-use Rattle.message_writer.proofs.Taken.{not-taken, empty-refused, options-small, options-left}
+use Rattle.message_measure.specs.Given.{Given, given}
+use Rattle.message_measure.proofs.Taken.{not-taken, empty-refused, options-small, options-left}
 use borrow.Author.Needs.{needs}
-use Rattle.message_writer.proofs.measure.takes.Statement.{statement}
-use Rattle.message_writer.proofs.measure.takes.Tie as tie
+use Rattle.message_measure.proofs.takes.Statement.{statement}
+use Rattle.message_measure.proofs.takes.Tie as tie
 
 abbrev asked : tie.Start → ℕ → Given
 asked s id =

@@ -1,9 +1,9 @@
-use Rattle.message_writer.proofs.Measures.{Measured, measured-start, uncounted, measured-small, measured-next, measured-over, measured-done}
+use Rattle.message_measure.proofs.Measures.{Measured, measured-start, uncounted, measured-small, measured-next, measured-over, measured-done}
 use lib.ListN.{length}
 use Prim.Native.Nat.{_-_}
 use borrow.Author.Needs.{needs}
-use Rattle.message_writer.proofs.measure.options.Statement.{statement}
-use Rattle.message_writer.proofs.measure.options.Tie as tie
+use Rattle.message_measure.proofs.options.Statement.{statement}
+use Rattle.message_measure.proofs.options.Tie as tie
 
 abbrev Inv-loop : tie.InvT-loop
 Inv-loop room numbers lengths values left₀ before₀ at₀ i₀ left before at i = Measured room numbers lengths values left before at i

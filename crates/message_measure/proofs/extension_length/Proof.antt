@@ -1,9 +1,9 @@
-use Rattle.message_writer.proofs.Heads.{extension-0, extension-1, extension-2}
+use Rattle.message_measure.proofs.Heads.{extension-0, extension-1, extension-2}
 use mathlib.Core.Path.{sym, ap}
 use lib.ListN.{length}
 use native.Mathlib.Omega.{arith}
-use Rattle.message_writer.proofs.measure.extension_length.Statement.{statement}
-use Rattle.message_writer.proofs.measure.extension_length.Tie as tie
+use Rattle.message_measure.proofs.extension_length.Statement.{statement}
+use Rattle.message_measure.proofs.extension_length.Tie as tie
 
 returns : tie.Need-returns
 returns c = (sym (ap length (extension-0 _ (c .if1 .taken))), omega arith)
