@@ -1,21 +1,21 @@
 -- The parts that the reader gives show what the message means: its token, its payload, its options. Assumes nothing.
 use mathlib.Core.Path.{_≡_, refl, sym, ap, _∙_}
-use mathlib.Core.Bool.{Bool, true, false, cond, _&&_}
 use mathlib.Core.List.{List, [], _∷_, _++_, append-assoc}
 use Prim.Native.Nat.{ℕ, zero, suc, _+_, _-_, _%_, _≤_}
 use native.Mathlib.Omega.{arith}
-use lib.Dec.{eqb}
 use lib.ListN.{length, take, drop, getD, length-append, length-drop, drop-of-length-le}
 use lib.Seq.{drop-drop, length-take-le, take-at, drop-at, take-all}
 use Rattle.pieces.specs.Memory.{within}
 use Rattle.pieces.proofs.Memory.{within-there}
-use Rattle.message.specs.Format.{CoapOption, Message, Bytes, optionsBytes, payloadBytes, headBytes, bytesOf, nextIn, options, onNext, optionsIn, optionsOf, means, meaningOf}
-use Rattle.message.specs.Reader.{packetOf, withoutPayload, counted, nextAt, foundFrom, value, nthOf, valueAt}
-use Rattle.message.specs.declared.Next.{Next}
-use Rattle.message.specs.declared.Next.the-variants.{Option, End, Malformed}
-use Rattle.message.proofs.Laws.{next-bounds, options-end, options-bad, options-left, no-options, end-no-option, with-tells, first-tells, found-none, found-on, found-here}
-use Rattle.message.proofs.Messages.{head-tells, meaning-tells}
-use Rattle.message.proofs.WriteBack.{write-back}
+use Rattle.message_format.specs.Format.{CoapOption, Message, Bytes, optionsBytes, payloadBytes, headBytes, bytesOf, nextIn, options, onNext, optionsIn, optionsOf, means, meaningOf}
+use Rattle.message_format.specs.declared.Next.{Next}
+use Rattle.message_format.specs.declared.Next.the-variants.{Option, End, Malformed}
+use Rattle.message_format.proofs.Laws.{next-bounds, options-left, no-options, with-tells}
+use Rattle.message_format.proofs.Meanings.{head-tells, meaning-tells}
+use Rattle.message_format.proofs.WriteBack.{write-back}
+use Rattle.option_reader.specs.Reader.{foundFrom, nthOf, valueAt}
+use Rattle.option_reader.proofs.Shown.{shown-from}
+use Rattle.message.specs.Reader.{packetOf, withoutPayload}
 
 -- ---- what is left after the options stands at the end
 
@@ -131,78 +131,6 @@ module _ (bytes : List ℕ) (m : Message) (is : meaningOf bytes ≡ means m) whe
     pub bare-is : packetOf (length bytes) m .options .to ≡ length (bytesOf (withoutPayload m))
     unfolding bytesOf headBytes payloadBytes
     bare-is = simp length-append (omega (arith, sizes))
-
-value-shown : (bytes : List ℕ) (at from to : ℕ) → from ≤ to → to ≤ length (drop at bytes) → at ≤ length bytes → within bytes (at + from) (at + to) ≡ take (to - from) (drop from (drop at bytes))
-value-shown bytes at from to h k l =
-    let span : at + to - (at + from) ≡ to - from = omega arith in
-    sym (within-there bytes (at + from) (at + to) (omega arith) (omega (arith, length-drop at bytes))) ∙ rw (span, drop-drop from at bytes)
-
--- ---- the options, one by one
-
--- What is next, where options are left: the first of them, with its value, and the others after it.
-pub record NextIs (bytes : List ℕ) (at before : ℕ) (o : CoapOption) (list : List CoapOption) (left : List ℕ) : Type 0 where
-  pub from : ℕ
-  pub to : ℕ
-  pub next : nextAt bytes at before ≡ Option (o .number) from to
-  pub shown : within bytes from to ≡ o .value
-  pub rest : optionsOf (o .number) (drop to bytes) ≡ options list left
-  pub there : to ≤ length bytes
-
-module _ (bytes : List ℕ) (at before : ℕ) (left : List ℕ) (h : at ≤ length bytes) where
-  pub next-shown : (o : CoapOption) (list : List CoapOption) → optionsOf before (drop at bytes) ≡ options (o ∷ list) left → NextIs bytes at before o list left
-  next-shown o list e = go (nextIn before (drop at bytes)) refl
-    where
-      go : (next : Next) → nextIn before (drop at bytes) ≡ next → NextIs bytes at before o list left
-      go (Option number from to) p =
-          let w = first-tells before (drop at bytes) number from to (o ∷ list) left p e in
-          let is : o ≡ record { number = number; value = take (to - from) (drop from (drop at bytes)) } = cc (w .2) in
-          let b = next-bounds before (drop at bytes) number from to p in
-          let same : number ≡ o .number = ap (λ (x : CoapOption). x .number) (sym is) in
-          record {
-            from = at + from;
-            to = at + to;
-            next = ap (counted at) p ∙ ap (λ (k : ℕ). Option k (at + from) (at + to)) same;
-            shown = value-shown bytes at from to (b .ends) (b .there) h ∙ ap (λ (x : CoapOption). x .value) (sym is);
-            rest = rw (← same) (ap (optionsOf number) (sym (drop-drop to at bytes)) ∙ w .1 ∙ ap (λ (l : List CoapOption). options l left) (cc (w .2)));
-            there = omega (arith, b .there, length-drop at bytes);
-          }
-      go End p = absurd (let z : _≡_ {A = ℕ} 0 1 = cc (sym (options-end before (drop at bytes) p) ∙ e) in omega arith)
-      go Malformed p = absurd (no-options (sym (options-bad before (drop at bytes) p) ∙ e))
-
-  -- And after the last one the end.
-  pub end-shown : optionsOf before (drop at bytes) ≡ options [] left → nextAt bytes at before ≡ End
-  end-shown e = go (nextIn before (drop at bytes)) refl
-    where
-      go : (next : Next) → nextIn before (drop at bytes) ≡ next → counted at (nextIn before (drop at bytes)) ≡ End
-      go (Option number from to) p =
-          let w = first-tells before (drop at bytes) number from to [] left p e in
-          absurd (let z : _≡_ {A = ℕ} 0 1 = cc (w .2) in omega arith)
-      go End p = ap (counted at) p
-      go Malformed p = absurd (no-options (sym (options-bad before (drop at bytes) p) ∙ e))
-
--- ---- the n-th option of a number
-
-shown-from : (bytes : List ℕ) (wanted : ℕ) (list : List CoapOption) (left : List ℕ) (at before n : ℕ) → at ≤ length bytes → optionsOf before (drop at bytes) ≡ options list left
-    → valueAt bytes (foundFrom bytes at before wanted n) ≡ nthOf wanted n list
-unfolding nthOf
-shown-from bytes wanted [] left at before n h e = ap (valueAt bytes) (sym (found-none bytes at before wanted n End (sym (end-shown bytes at before left h e)) (λ number from to p. end-no-option p)))
-shown-from bytes wanted (o ∷ list) left at before n h e = go (eqb (o .number) wanted) (eqb n 0) refl refl (λ k. shown-from bytes wanted list left (is .to) (o .number) k (is .there) (is .rest))
-  where
-    is : NextIs bytes at before o list left
-    is = next-shown bytes at before left h o list e
-
-    go : (x y : Bool) → eqb (o .number) wanted ≡ x → eqb n 0 ≡ y → ((k : ℕ) → valueAt bytes (foundFrom bytes (is .to) (o .number) wanted k) ≡ nthOf wanted k list)
-        → valueAt bytes (foundFrom bytes at before wanted n) ≡ cond x (cond y (value (o .value)) (nthOf wanted (n - 1) list)) (nthOf wanted n list)
-    go true true p q more =
-        ap (valueAt bytes) (sym (found-here bytes at before wanted n (nextAt bytes at before) refl (o .number) (is .from) (is .to) (is .next) (λ i. p i && q i))) ∙ ap value (is .shown)
-    go true false p q more =
-        ap (valueAt bytes) (sym (found-on bytes at before wanted n (nextAt bytes at before) refl (o .number) (is .from) (is .to) (is .next) (λ i. p i && q i)))
-        ∙ ap (λ (b : Bool). valueAt bytes (foundFrom bytes (is .to) (o .number) wanted (cond b (n - 1) n))) p
-        ∙ more (n - 1)
-    go false y p q more =
-        ap (valueAt bytes) (sym (found-on bytes at before wanted n (nextAt bytes at before) refl (o .number) (is .from) (is .to) (is .next) (λ i. p i && q i)))
-        ∙ ap (λ (b : Bool). valueAt bytes (foundFrom bytes (is .to) (o .number) wanted (cond b (n - 1) n))) p
-        ∙ more n
 
 -- The n-th option of a number that is found in a message is the n-th that the message means.
 pub found-shown : (bytes : List ℕ) (m : Message) → meaningOf bytes ≡ means m → (wanted n : ℕ)

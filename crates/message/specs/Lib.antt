@@ -1,2 +1,1 @@
-pub mod Format
 pub mod Reader

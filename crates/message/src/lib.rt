@@ -1,18 +1,17 @@
-// CoAP messages (RFC 7252), read where they stand: parts of the message, never copies.
-mod reader;
-
-pub use reader::bare;
-pub use reader::from_bytes;
-pub use reader::next_option;
-pub use reader::nth_option;
-pub use reader::part_of;
-
-// The bytes from `from` on, up to `to` and without it. The reader stands apart from the handler, which has a `Part` of its own.
-#[repr(C)]
-pub struct Part {
-    pub from: usize,
-    pub to: usize,
-}
+// CoAP messages (RFC 7252), read where they stand: parts of the message, never copies. `from_bytes` judges the whole message before it shows any
+// part. The other functions are for a message that it took, and say the same of any bytes.
+pub use message_format::Next;
+pub use one_option::next_option;
+use option_reader::Ends;
+pub use option_reader::Found;
+pub use option_reader::Part;
+pub use option_reader::nth_option;
+ghost use mathlib.Core.Path.{_≡_};
+ghost use Prim.Native.Nat.{_+_, _-_, _*_, _≤_, _<_};
+ghost use lib.ListN.{length};
+ghost use Rattle.pieces.specs.Memory.{within};
+ghost use Rattle.message_format.specs.Format.{headOk};
+ghost use Rattle.message.specs.Reader.{packetWith, readOf};
 
 // A message, by what its head says and where its parts stand in it.
 pub struct Packet {
@@ -33,29 +32,94 @@ pub enum Reading {
     Refused(u8),
 }
 
-// What stands where an option may begin: an option and where its value stands, the end of the options, or neither. Places count from where the
-// bytes begin that were handed over.
-pub enum Next {
-    Option { number: u16, from: usize, to: usize },
-    End,
-    Malformed,
+// Judges the first byte and the code, before n more bytes.
+fn head_ok(first: usize, code: u8, n: usize) -> bool
+    ensures { λ r. ⌜ r ≡ headOk first code n ⌝ }
+{
+    if first / 64 != 1 {
+        return false;
+    }
+    if 8 < first % 16 {
+        return false;
+    }
+    if n < first % 16 {
+        return false;
+    }
+    if code != 0 {
+        return true;
+    }
+    n == 0
 }
 
-// What a run of options comes to: how many bytes are left after it, with the last number; or at the end of the options.
-enum Run {
-    More { left: usize, number: u16 },
-    End(usize),
-    Malformed,
+// The payload's length, of the bytes that are left where the options end.
+fn payload_length(left: usize) -> usize
+    ensures { λ r. ⌜ r ≡ left - 1 ⌝ }
+{
+    if left == 0 {
+        return 0;
+    }
+    left - 1
 }
 
-// How many bytes are left where the options end.
-enum Ends {
-    Left(usize),
-    Malformed,
+fn big_endian(high: u8, low: u8) -> u16
+    ensures { λ r. ⌜ r ≡ high * 256 + low ⌝ }
+{
+    high as u16 * 256 + low as u16
 }
 
-// Where an option's value stands.
-pub enum Found {
-    At(Part),
-    Absent,
+// The parts of a message that was judged, by its first byte and how many bytes are left where its options end.
+fn packet_with(message: &[u8], first: usize, left: usize) -> Packet
+    requires { ⌜ (4 ≤ length (now message)) × (first < 256) × (left ≤ length (now message)) ⌝ }
+    ensures { λ r. ⌜ r ≡ packetWith (now (message .entry)) first left ⌝ }
+{
+    let n = message.len();
+    let options = 4 + first % 16;
+    Packet {
+        message_type: (first / 16 % 4) as u8,
+        code: message[1],
+        message_id: big_endian(message[2], message[3]),
+        token: Part {
+            from: 4,
+            to: options,
+        },
+        options: Part {
+            from: options,
+            to: n - left,
+        },
+        payload: Part {
+            from: n - payload_length(left),
+            to: n,
+        },
+    }
+}
+
+// Reads a whole message: Packet::from_bytes in the Rust.
+pub fn from_bytes(message: &[u8]) -> Reading
+    ensures { λ r. ⌜ r ≡ readOf (now (message .entry)) ⌝ }
+{
+    if message.len() < 4 {
+        return Reading::Refused(11);
+    }
+    let first = wide::usize_of_u8(message[0]);
+    if !head_ok(first, message[1], message.len() - 4) {
+        return Reading::Refused(11);
+    }
+    let Ends::Left(left) = option_reader::options_end(message, 4 + first % 16) else {
+        return Reading::Refused(11);
+    };
+    Reading::Message(packet_with(message, first, left))
+}
+
+// The length of the message encoded with its payload taken out: the marker goes too.
+pub fn bare(packet: Packet) -> usize
+    ensures { λ r. ⌜ r ≡ packet .options .to ⌝ }
+{
+    packet.options.to
+}
+
+// A part of the message, lent and never copied: empty where it isn't there.
+pub fn part_of(message: &[u8], part: Part) -> &[u8]
+    ensures { λ r. ⌜ now r ≡ within (now (message .entry)) (part .from) (part .to) ⌝ }
+{
+    pieces::within(message, part.from, part.to)
 }

@@ -3,18 +3,19 @@ use Prim.Native.Nat.{ℕ}
 use mathlib.Core.List.{List}
 use mathlib.Core.Path.{_≡_}
 use lib.ListN.{length}
-use Rattle.message.specs.declared.Part.{Part}
+use Rattle.option_reader.specs.declared.Part.{Part}
 use Rattle.message.specs.declared.Packet.{Packet}
 use Rattle.message.specs.declared.Reading.{Reading}
 use Rattle.message.specs.declared.Reading.the-variants as reading-variants
-use Rattle.message.specs.declared.Next.{Next}
-use Rattle.message.specs.declared.Next.the-variants.{Option, End, Malformed}
-use Rattle.message.specs.declared.Found.{Found}
-use Rattle.message.specs.declared.Found.the-variants.{At, Absent}
-use Rattle.message.specs.Reader.{between}
+use Rattle.message_format.specs.declared.Next.{Next}
+use Rattle.message_format.specs.declared.Next.the-variants.{Option, End, Malformed}
+use Rattle.option_reader.specs.declared.Found.{Found}
+use Rattle.option_reader.specs.declared.Found.the-variants.{At, Absent}
+use Rattle.option_reader.specs.Reader.{between}
 use Rattle.message_writer.specs.declared.Writing.{Writing}
 use Rattle.message_writer.specs.declared.Writing.the-variants.{Written, Refused}
-use Rattle.message_writer.specs.Writer.{Given, writingOf, outputOf}
+use Rattle.message_measure.specs.Given.{Given}
+use Rattle.message_writer.specs.Writer.{writingOf, outputOf}
 use Rattle.option_table.specs.declared.Length.{Length}
 use Rattle.option_table.specs.declared.Length.the-variants.{Unknown, Allowed, NotAllowed}
 use Rattle.message_c.specs.declared.ReadMessage.{ReadMessage}

@@ -7,8 +7,10 @@ use message::Reading;
 use message_writer::Writing;
 use option_table::Length;
 ghost use mathlib.Core.Path.{_≡_};
-ghost use Rattle.message.specs.Reader.{readOf, nextAt, foundFrom};
-ghost use Rattle.message_writer.specs.Writer.{given};
+ghost use Rattle.one_option.specs.Index.{nextAt};
+ghost use Rattle.option_reader.specs.Reader.{foundFrom};
+ghost use Rattle.message.specs.Reader.{readOf};
+ghost use Rattle.message_measure.specs.Given.{given};
 ghost use Rattle.option_table.specs.Options.{allowedOf};
 ghost use Rattle.message_c.specs.Numbers.{option, noOption, malformedOption, packetRead, refusedRead, messageRead, optionNext, optionFound, WritesNumbers, lengthNumber};
 

@@ -1,18 +1,44 @@
--- The text of a line, by what its hex is. Assumes nothing.
-use mathlib.Core.Path.{_≡_, refl, ap}
+-- The line of a message, by what the reader answers; and the text of a line, by what its hex is. Assumes nothing.
+use mathlib.Core.Path.{_≡_, refl, sym, ap, _∙_}
 use mathlib.Core.Bool.{Bool, true, false, cond, _&&_}
-use mathlib.Core.List.{List, [], _∷_}
+use mathlib.Core.List.{List, [], _∷_, _++_}
 use Prim.Native.Nat.{ℕ, _-_, _*_, _≤_, _<_}
 use native.Mathlib.Omega.{arith}
 use lib.Dec.{leb}
 use lib.ListN.{length, take}
 use borrow.Author.Tests.{le-leb, lt-leb, leb-true}
 use Rattle.pieces.proofs.Tests.{and-left}
-use Rattle.message.specs.Format.{meaningOf}
+use Rattle.message_format.specs.Format.{Message, Meaning, malformed, means, meaningOf}
+use Rattle.message.specs.Reader.{readingOf, readOf}
+use Rattle.message.specs.declared.Packet.{Packet}
+use Rattle.message.specs.declared.Reading.the-variants as reading
 use Rattle.script.specs.Fields.{isPairs, pairsOf, pairsDecoded, Filled}
 use Rattle.script.specs.declared.Decoded.the-variants as decoded
-use Rattle.message_text.specs.Fields.{unreadableText}
-use Rattle.message_text.specs.Text.{meaningText, lineDecoded, lineText}
+use Rattle.head_text.specs.Head.{headText}
+use Rattle.parts_text.specs.Parts.{partsText}
+use Rattle.parts_text.proofs.Places.{Read}
+use Rattle.message_text.specs.Text.{refusedText, unreadableText, messageText, meaningText, lineDecoded, lineText}
+
+-- ---- the line of a message
+
+refused-tells : (bytes : List ℕ) (code : ℕ) → readOf bytes ≡ reading.Refused code → meaningOf bytes ≡ malformed
+refused-tells bytes code e = go (meaningOf bytes) refl e
+  where
+    go : (meaning : Meaning) → meaningOf bytes ≡ meaning → readingOf (length bytes) meaning ≡ reading.Refused code → meaningOf bytes ≡ malformed
+    go malformed p q = p
+    go (means m) p q = absurd (let z : _≡_ {A = ℕ} 0 1 = cc in omega arith)
+
+pub refused-line : (number : ℕ) (bytes : List ℕ) (code : ℕ) → readOf bytes ≡ reading.Refused code → refusedText number ≡ meaningText number (meaningOf bytes)
+refused-line number bytes code e = ap (meaningText number) (sym (refused-tells bytes code e))
+
+pub message-line : (number : ℕ) (bytes : List ℕ) (packet : Packet) (m : Message) → Read bytes packet m
+    → headText number (packet .«message_type») (packet .code) (packet .«message_id») ++ partsText m ≡ meaningText number (meaningOf bytes)
+unfolding messageText
+message-line number bytes packet m r =
+    ap (λ (p : Packet). headText number (p .«message_type») (p .code) (p .«message_id») ++ partsText m) (r .packet-is)
+    ∙ ap (meaningText number) (sym (r .means-it))
+
+-- ---- the line of its hex
 
 -- two digits a byte
 pub pairs-length : (text : List ℕ) → 2 * length (pairsOf text) ≤ length text

@@ -4,26 +4,23 @@ use mathlib.Core.Bool.{cond, _&&_}
 use mathlib.Core.List.{List, [], _∷_, _++_}
 use lib.Dec.{leb}
 use lib.ListN.{length}
-use Rattle.message.specs.Format.{CoapOption, Message, Meaning, malformed, means, meaningOf}
-use Rattle.script_text.specs.Text.{shown}
+use Rattle.message_format.specs.Format.{Message, Meaning, malformed, means, meaningOf}
+use Rattle.script_text.specs.Text.{decimal}
 use Rattle.script.specs.Fields.{isPairs, pairsOf}
 use Rattle.script.specs.declared.Decoded.{Decoded}
 use Rattle.script.specs.declared.Decoded.the-variants as decoded
-use Rattle.message_text.specs.Fields.{headText, optionText, refusedText, unreadableText}
+use Rattle.head_text.specs.Head.{headText}
+use Rattle.parts_text.specs.Parts.{partsText}
 
--- Options, each behind a comma.
-unfoldable pub moreText : List CoapOption → List ℕ
-moreText [] = []
-moreText (o ∷ options) = 44 ∷ (optionText (o .number) (o .value) ++ moreText options)
+-- `N refused-11 - - - - -`, and a line end.
+unfoldable pub refusedText : ℕ → List ℕ
+refusedText number =
+    decimal number ++ (32 ∷ 114 ∷ 101 ∷ 102 ∷ 117 ∷ 115 ∷ 101 ∷ 100 ∷ 45 ∷ 49 ∷ 49 ∷ 32 ∷ 45 ∷ 32 ∷ 45 ∷ 32 ∷ 45 ∷ 32 ∷ 45 ∷ 32 ∷ 45 ∷ 10 ∷ [])
 
--- All options, joined by commas; a dash where there are none.
-unfoldable pub optionsText : List CoapOption → List ℕ
-optionsText [] = 45 ∷ []
-optionsText (o ∷ options) = optionText (o .number) (o .value) ++ moreText options
-
--- `token options payload`, and a line end.
-unfoldable pub partsText : Message → List ℕ
-partsText m = shown (m .token) ++ (32 ∷ optionsText (m .options) ++ (32 ∷ shown (m .payload) ++ (10 ∷ [])))
+-- `N unreadable - - - - -`, and a line end.
+unfoldable pub unreadableText : ℕ → List ℕ
+unreadableText number =
+    decimal number ++ (32 ∷ 117 ∷ 110 ∷ 114 ∷ 101 ∷ 97 ∷ 100 ∷ 97 ∷ 98 ∷ 108 ∷ 101 ∷ 32 ∷ 45 ∷ 32 ∷ 45 ∷ 32 ∷ 45 ∷ 32 ∷ 45 ∷ 32 ∷ 45 ∷ 10 ∷ [])
 
 -- `N type code id token options payload`, and a line end.
 unfoldable pub messageText : ℕ → Message → List ℕ

@@ -8,9 +8,10 @@ use lib.ListN.{length, getD, take, drop, length-append, length-drop, drop-of-len
 use lib.Seq.{drop-drop, length-take-le}
 use Rattle.pieces.specs.Memory.{Put}
 use Rattle.pieces.proofs.Puts.{put-none, put-then, put-as, put-length}
-use Rattle.message.specs.Format.{optionHead, optionsBytes, optionsOk}
-use Rattle.message_writer.specs.Writer.{optionsFrom, describes, optionLength}
-use Rattle.message_writer.proofs.Measures.{Fits, AllFit, described, first-fits, rest-fits, drop-next}
+use Rattle.message_format.specs.Format.{optionHead, optionsBytes, optionsOk}
+use Rattle.message_measure.specs.Given.{optionsFrom, describes}
+use Rattle.message_measure.specs.Rooms.{optionLength}
+use Rattle.message_measure.proofs.Measures.{Fits, AllFit, described, first-fits, rest-fits, drop-next}
 
 -- after i options: those ahead fit, and where they are written next, all are
 pub record Ahead (out₀ : List ℕ) (start : ℕ) (numbers lengths values out : List ℕ) (to before at i : ℕ) : Type 0 where

@@ -1,6 +1,4 @@
-pub mod Heads
-pub mod Measures
 pub mod Ahead
-pub mod Taken
+pub mod Writings
 pub mod Refuses
 pub mod RoundTrip

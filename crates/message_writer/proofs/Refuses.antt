@@ -10,8 +10,9 @@ use lib.ListN.{length, take}
 use borrow.Author.Tests.{leb-true}
 use Rattle.pieces.specs.Memory.{patch, part}
 use Rattle.pieces.proofs.Memory.{part-patch}
-use Rattle.message.specs.Format.{bytesOf, encodable}
-use Rattle.message_writer.specs.Writer.{Given, Writes, describes, messageOf, takes}
+use Rattle.message_format.specs.Format.{bytesOf, encodable}
+use Rattle.message_measure.specs.Given.{Given, describes, messageOf, takes}
+use Rattle.message_writer.specs.Writer.{Writes}
 use Rattle.message_writer.specs.declared.Writing.the-variants.{Written, Refused}
 use Rattle.pieces.proofs.Tests.{and-left, and-right}
 

@@ -9,12 +9,13 @@ use lib.Dec.{leb, eqb}
 use lib.ListN.{length, take, drop, length-append}
 use lib.Seq.{take-at, drop-at}
 use borrow.Author.Tests.{leb-false, le-leb, eq-eqb, eqb-true}
-use Rattle.message.specs.Format.{CoapOption, Message, Bytes, bytesOf, emptyOk, encodable, meaningOf, means}
+use Rattle.message_format.specs.Format.{CoapOption, Message, Bytes, bytesOf, emptyOk, encodable, meaningOf, means}
 use Rattle.message.specs.Reader.{packetOf, withoutPayload}
-use Rattle.message.proofs.ReadBack.{read-back, encodable-tells}
-use Rattle.message.proofs.WriteBack.{write-back}
+use Rattle.message_format.proofs.ReadBack.{read-back, encodable-tells}
+use Rattle.message_format.proofs.WriteBack.{write-back}
 use Rattle.message.proofs.Shown.{bare-is}
-use Rattle.message_writer.specs.Writer.{Given, Writes, optionsFrom, total, describes, messageOf, numbersOf, lengthsOf, valuesOf, givenOf, takes}
+use Rattle.message_measure.specs.Given.{Given, optionsFrom, total, describes, messageOf, takes}
+use Rattle.message_writer.specs.Writer.{Writes, numbersOf, lengthsOf, valuesOf, givenOf}
 use Rattle.message_writer.specs.declared.Writing.{Writing}
 use Rattle.message_writer.specs.declared.Writing.the-variants.{Written, Refused}
 use Rattle.message_writer.proofs.Refuses.{refused-test, written-described, written-bytes}

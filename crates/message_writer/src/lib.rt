@@ -1,20 +1,14 @@
 // CoAP messages (RFC 7252), written into a lent buffer: measured before the first byte, so a refused one leaves it untouched.
-mod measure;
 mod put;
 
-ghost use Rattle.message_writer.specs.Writer.{given, Writes};
+ghost use Rattle.message_measure.specs.Given.{given};
+ghost use Rattle.message_writer.specs.Writer.{Writes};
 
 pub enum Writing {
     // So many bytes, at the start of the output.
     Written(usize),
     // 21: no encoding, or an output too small.
     Refused(u8),
-}
-
-// What is left of the output, or that it is too small or the options have no encoding.
-enum Room {
-    Left(usize),
-    Small,
 }
 
 // Writes a whole message: Packet::to_bytes in the Rust. The options are given by their numbers, the lengths of their values, and the values
@@ -33,7 +27,7 @@ pub fn to_bytes<'a>(
     ensures { λ r. ⌜ Writes (now (out .entry)) (given «message_type» code «message_id» (now (token .entry))
         (now (numbers .entry)) (now (lengths .entry)) (now (values .entry)) (now (payload .entry))) (now (out .exit)) r ⌝ }
 {
-    if measure::takes(
+    if message_measure::takes(
         out.len(),
         message_type,
         code,

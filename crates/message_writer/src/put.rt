@@ -5,8 +5,9 @@ ghost use mathlib.Core.List.{_++_};
 ghost use Prim.Native.Nat.{_+_, _<_, _≤_};
 ghost use lib.ListN.{length};
 ghost use Rattle.pieces.specs.Memory.{Put};
-ghost use Rattle.message.specs.Format.{nibbleOf, extension, optionHead, optionsBytes, optionsOk, payloadBytes};
-ghost use Rattle.message_writer.specs.Writer.{optionsFrom, describes, opening};
+ghost use Rattle.message_format.specs.Format.{nibbleOf, extension, optionHead, optionsBytes, optionsOk, payloadBytes};
+ghost use Rattle.message_measure.specs.Given.{optionsFrom, describes};
+ghost use Rattle.message_writer.specs.Writer.{opening};
 
 fn nibble_of(n: usize) -> u8
     ensures { λ r. ⌜ (r ≡ nibbleOf n) × (r < 15) ⌝ }

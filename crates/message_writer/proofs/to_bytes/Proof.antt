@@ -3,8 +3,9 @@ use mathlib.Core.Path.{_≡_, sym, _∙_}
 use lib.ListN.{length}
 use native.Mathlib.Omega.{arith}
 use Rattle.pieces.proofs.Puts.{put-then, put-length}
-use Rattle.message_writer.specs.Writer.{Given, given, takes}
-use Rattle.message_writer.proofs.Taken.{taken, opening-length, writes-taken, writes-refused}
+use Rattle.message_measure.specs.Given.{Given, given, takes}
+use Rattle.message_measure.proofs.Taken.{taken}
+use Rattle.message_writer.proofs.Writings.{opening-length, writes-taken, writes-refused}
 use borrow.Author.Needs.{needs}
 use Rattle.message_writer.proofs.to_bytes.Statement.{statement}
 use Rattle.message_writer.proofs.to_bytes.Tie as tie

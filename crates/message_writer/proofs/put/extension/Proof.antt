@@ -2,7 +2,7 @@ use native.Mathlib.Omega.{arith}
 use mathlib.Core.Path.{sym, ap}
 use lib.ListN.{length}
 use Rattle.pieces.proofs.Puts.{put-none, put-as}
-use Rattle.message_writer.proofs.Heads.{extension-0, extension-1, extension-2}
+use Rattle.message_measure.proofs.Heads.{extension-0, extension-1, extension-2}
 use borrow.Author.Needs.{needs}
 use Rattle.message_writer.proofs.put.extension.Statement.{statement}
 use Rattle.message_writer.proofs.put.extension.Tie as tie

@@ -1,5 +1,5 @@
 use Rattle.pieces.proofs.Puts.{put-then}
-use Rattle.message.specs.Format.{headBytes}
+use Rattle.message_format.specs.Format.{headBytes}
 use Rattle.message_writer.specs.Writer.{opening}
 use borrow.Author.Needs.{needs}
 use Rattle.message_writer.proofs.put.head.Statement.{statement}

@@ -1,4 +1,4 @@
-use Rattle.message_writer.proofs.Heads.{nibble-0, nibble-1, nibble-2}
+use Rattle.message_measure.proofs.Heads.{nibble-0, nibble-1, nibble-2}
 use mathlib.Core.Path.{sym}
 use native.Mathlib.Omega.{arith}
 use borrow.Author.Needs.{needs}

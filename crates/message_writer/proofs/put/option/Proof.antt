@@ -1,6 +1,6 @@
 use Rattle.pieces.proofs.Puts.{put-then}
 use lib.ListN.{length, length-append}
-use Rattle.message.specs.Format.{optionHead}
+use Rattle.message_format.specs.Format.{optionHead}
 use borrow.Author.Needs.{needs}
 use Rattle.message_writer.proofs.put.option.Statement.{statement}
 use Rattle.message_writer.proofs.put.option.Tie as tie

@@ -1,6 +1,6 @@
 use native.Mathlib.Omega.{arith}
 use Rattle.pieces.proofs.Puts.{put-then, put-as}
-use Rattle.message_writer.proofs.Heads.{head-length, head-is}
+use Rattle.message_measure.proofs.Heads.{head-length, head-is}
 use borrow.Author.Needs.{needs}
 use Rattle.message_writer.proofs.put.option_head.Statement.{statement}
 use Rattle.message_writer.proofs.put.option_head.Tie as tie

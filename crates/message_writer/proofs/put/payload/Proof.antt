@@ -1,7 +1,7 @@
 use native.Mathlib.Omega.{arith}
 use mathlib.Core.Path.{sym}
 use Rattle.pieces.proofs.Puts.{put-none, put-then, put-as}
-use Rattle.message_writer.proofs.Heads.{payload-none, payload-some, payload-some-length}
+use Rattle.message_measure.proofs.Heads.{payload-none, payload-some, payload-some-length}
 use borrow.Author.Needs.{needs}
 use Rattle.message_writer.proofs.put.payload.Statement.{statement}
 use Rattle.message_writer.proofs.put.payload.Tie as tie

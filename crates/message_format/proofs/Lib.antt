@@ -1,0 +1,4 @@
+pub mod Laws
+pub mod Meanings
+pub mod ReadBack
+pub mod WriteBack
