@@ -9,8 +9,8 @@ use lib.ListN.{length, take}
 use borrow.Author.Tests.{le-leb, lt-leb, leb-true}
 use Rattle.pieces.proofs.Tests.{and-left}
 use Rattle.message.specs.Format.{meaningOf}
-use Rattle.script.specs.Fields.{isPairs, pairsOf, pairsDecoded, Filled}
-use Rattle.script.specs.declared.Decoded.the-variants as decoded
+use Rattle.script_fields.specs.Fields.{isPairs, pairsOf, pairsDecoded, Filled}
+use Rattle.script_fields.specs.declared.Decoded.the-variants as decoded
 use Rattle.message_text.specs.Fields.{unreadableText}
 use Rattle.message_text.specs.Text.{meaningText, lineDecoded, lineText}
 

@@ -1,12 +1,12 @@
 // A message's line, and that of its hex.
 use message::Reading;
-use script::Decoded;
+use script_fields::Decoded;
 ghost use mathlib.Core.Path.{_≡_};
 ghost use Prim.Native.Nat.{_+_, _*_, _≤_};
 ghost use lib.ListN.{length};
 ghost use Rattle.pieces.specs.Memory.{Put};
 ghost use Rattle.message.specs.Format.{meaningOf};
-ghost use Rattle.script.specs.Fields.{pairsOf, Filled};
+ghost use Rattle.script_fields.specs.Fields.{pairsOf, Filled};
 ghost use Rattle.message_text.specs.Text.{meaningText, lineDecoded, lineText};
 
 // What the bytes of a message mean.
@@ -34,7 +34,7 @@ fn decode_line(line: &[u8], bytes: &mut [u8]) -> Decoded
     if 131070 < line.len() {
         return Decoded::Bad;
     }
-    script::decode_pairs(line, bytes)
+    script_fields::decode_pairs(line, bytes)
 }
 
 // What a line says; its bytes are left in a buffer.

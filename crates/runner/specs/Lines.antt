@@ -6,7 +6,7 @@ use lib.Dec.{ltb, eqb}
 use lib.ListN.{length}
 use Rattle.config.specs.declared.Config.{Config}
 use Rattle.block_handler.specs.Call.{World}
-use Rattle.script.specs.Line.{cutAt}
+use Rattle.script_cut.specs.Cut.{cutAt}
 use Rattle.script_state.specs.declared.State.{State}
 use Rattle.script_state.specs.Start.{header}
 use Rattle.fresh_start.specs.Leaves.{After, worldIn}

@@ -31,7 +31,7 @@ pub fn run_lines(
 {
     let mut here = step;
     let mut from = 0;
-    let mut end = script::mark_from(text, 0, b'\n');
+    let mut end = script_cut::mark_from(text, 0, b'\n');
     while end < text.len() {
         let next = script_state::counted(here);
         let ran = run_any(
@@ -45,7 +45,7 @@ pub fn run_lines(
         );
         here = script_state::flushed(out, ran);
         from = end + 1;
-        end = script::mark_from(text, from, b'\n');
+        end = script_cut::mark_from(text, from, b'\n');
     }
     Rest { step: here, from }
 }
