@@ -1,6 +1,6 @@
 // The lines of a text, one after another.
 use crate::Rest;
-use crate::line::run_any;
+use line_runner::run_any;
 use script_state::Step;
 ghost use mathlib.Core.Path.{_≡_};
 ghost use Prim.Native.Nat.{_≤_};
@@ -9,7 +9,7 @@ ghost use Rattle.line_input.specs.Sizes.{much};
 ghost use Rattle.pieces.specs.Memory.{Put};
 ghost use Rattle.script_state.specs.Sizes.{outputSize};
 ghost use Rattle.script_state.specs.Start.{begun};
-ghost use Rattle.runner.specs.Line.{Lent};
+ghost use Rattle.line_runner.specs.Line.{Lent};
 ghost use Rattle.runner.specs.Lines.{linesIn, waitsIn, afterLast, lastText, unended, standing, afterScript, waitsAfterScript};
 
 // Runs each line that has ended in the text. The output that is left waits.

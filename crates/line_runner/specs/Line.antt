@@ -31,10 +31,13 @@ controlled (Fresh d) c w n l = fresh d n
 controlled Show c w n l = stateShown c w n
 controlled Other c w n l = called c w n l
 
+abbrev pub unread : Config → World → ℕ → After
+unread c w n = record { config = c; world = w; text = unreadableText n }
+
 -- A line that is longer than the longest is unreadable; a script of 8 KiB has none.
 unfoldable pub lineRun : Bool → Config → World → ℕ → List ℕ → After
 lineRun replay c w n l =
-    cond (ltb longest (length l)) (record { config = c; world = w; text = unreadableText n })
+    cond (ltb longest (length l)) (unread c w n)
     (cond replay (controlled (controlOf l) c w n l) (called c w n l))
 
 -- ---- where the code stands, with what is lent to it
@@ -44,6 +47,13 @@ calledIn l s up away = called (s .state .config) (worldIn (s .state .config) (s 
 
 abbrev pub shownIn : Step → List ℕ → List ℕ → After
 shownIn s up away = stateShown (s .state .config) (worldIn (s .state .config) (s .state .table) up away) (s .state .number)
+
+abbrev pub unreadIn : Step → List ℕ → List ℕ → After
+unreadIn s up away = unread (s .state .config) (worldIn (s .state .config) (s .state .table) up away) (s .state .number)
+
+abbrev pub controlledIn : List ℕ → Step → List ℕ → List ℕ → After
+controlledIn l s up away =
+    controlled (controlOf l) (s .state .config) (worldIn (s .state .config) (s .state .table) up away) (s .state .number) l
 
 abbrev pub lineIn : Bool → List ℕ → Step → List ℕ → List ℕ → After
 lineIn replay l s up away = lineRun replay (s .state .config) (worldIn (s .state .config) (s .state .table) up away) (s .state .number) l

@@ -1,13 +1,13 @@
 use native.Mathlib.Omega.{arith}
-use Rattle.runner.proofs.Leaving.{from-start, leaves-shown}
+use Rattle.line_runner.proofs.Leaving.{from-start, leaves-shown}
 use borrow.Author.Needs.{needs}
-use Rattle.runner.proofs.line.show.Statement.{statement}
-use Rattle.runner.proofs.line.show.Tie as tie
+use Rattle.line_runner.proofs.show.Statement.{statement}
+use Rattle.line_runner.proofs.show.Tie as tie
 
 returns : tie.Need-returns
 returns c =
     let put = c .before .before in
-    let sized = put .before .before .before .before in
+    let sized = put .before .before .before .before .before in
     leaves-shown _ _ _ _ (from-start _ (sized .before .memory-of .ensures .0)) (from-start _ (sized .memory-of2 .ensures .0))
     (put .put-state .ensures .0) (omega (arith, put .put-state .ensures .1))
 

@@ -1,6 +1,6 @@
 -- What a line leaves of the lent memories, and which line it is. Assumes nothing.
 use mathlib.Core.Path.{_≡_, refl, sym, ap, _∙_}
-use mathlib.Core.Bool.{Bool, true, false, not}
+use mathlib.Core.Bool.{Bool, true, false}
 use mathlib.Core.List.{List}
 use Prim.Native.Nat.{ℕ, _+_, _-_, _≤_, _<_}
 use native.Mathlib.Omega.{arith}
@@ -25,7 +25,7 @@ use Rattle.script_state.specs.declared.Step.{Step}
 use Rattle.state_text.specs.State.{stateText}
 use Rattle.fresh_start.specs.Leaves.{After, worldIn, Leaves}
 use Rattle.fresh_start.proofs.Fronts.{fronted, leaves-fronts}
-use Rattle.runner.specs.Line.{called, controlled, lineRun, calledIn, shownIn, Lent}
+use Rattle.line_runner.specs.Line.{called, controlled, lineRun, calledIn, shownIn, unreadIn, unread, Lent}
 
 -- ---- what a line leaves
 
@@ -39,13 +39,18 @@ pub world-by : (c : Config) (t : Table) (up away : List ℕ) {u v : ℕ} → u �
 world-by c t up away eu ev = λ i. world t (take (eu i) up) (take (ev i) away)
 
 module _ (s : Step) (up away m : List ℕ) {m′ : List ℕ} where
-  pub leaves-same : (a : After) {at : ℕ} → s .state .config ≡ a .config → worldIn (s .state .config) (s .state .table) up away ≡ a .world
+  leaves-same : (a : After) {at : ℕ} → s .state .config ≡ a .config → worldIn (s .state .config) (s .state .table) up away ≡ a .world
       → Put m (s .at) (a .text) m′ at → at ≤ s .at + lineRoom → Leaves a s up away m (record { state = s .state; at = at }) up away m′
   leaves-same a ec ew text room = record { config = ec; world = ew; number = refl; upload = refl; response = refl; text = text; room = room }
 
   by-state : {a : After} {x y : State} {at : ℕ} {up′ away′ : List ℕ} → x ≡ y → Leaves a s up away m (record { state = y; at = at }) up′ away′ m′
       → Leaves a s up away m (record { state = x; at = at }) up′ away′ m′
   by-state e h = rw e h
+
+  -- A line that is too long changes nothing.
+  pub leaves-unread : {z : Step} → z .state ≡ s .state → Put m (s .at) (unreadableText (s .state .number)) m′ (z .at) → z .at ≤ s .at + lineRoom
+      → Leaves (unreadIn s up away) s up away m z up away m′
+  leaves-unread e text room = by-state e (leaves-same (unreadIn s up away) refl refl text room)
 
   module _ {u v : ℕ} (eu : u ≡ memoryOf (s .state .config .upload)) (ev : v ≡ memoryOf (s .state .config .response)) where
     -- The state is shown of the parts.
@@ -83,26 +88,18 @@ lent-kept w e =
 
 -- ---- which line it is
 
-on : (b : Bool) → not b ≡ false → b ≡ true
-on true e = refl
-on false e = sym e
-
-off : (b : Bool) → not b ≡ true → b ≡ false
-off true e = sym e
-off false e = refl
-
 module _ (replay : Bool) (c : Config) (w : World) (n : ℕ) (l : List ℕ) where
-  pub long-line : longest < length l → lineRun replay c w n l ≡ record { config = c; world = w; text = unreadableText n }
+  pub long-line : longest < length l → lineRun replay c w n l ≡ unread c w n
   unfolding lineRun
   long-line h = rw (lt-ltb longest (length l) h)
 
-  pub script-line : length l ≤ longest → not replay ≡ true → lineRun replay c w n l ≡ called c w n l
+  pub script-line : length l ≤ longest → replay ≡ false → lineRun replay c w n l ≡ called c w n l
   unfolding lineRun
-  script-line h e = rw (le-ltb longest (length l) h, off replay e)
+  script-line h e = rw (le-ltb longest (length l) h, e)
 
-  replay-line : length l ≤ longest → not replay ≡ false → lineRun replay c w n l ≡ controlled (controlOf l) c w n l
+  pub replay-line : length l ≤ longest → replay ≡ true → lineRun replay c w n l ≡ controlled (controlOf l) c w n l
   unfolding lineRun
-  replay-line h e = rw (le-ltb longest (length l) h, on replay e)
+  replay-line h e = rw (le-ltb longest (length l) h, e)
 
-  pub control-line : {r k : Control} → length l ≤ longest → not replay ≡ false → r ≡ controlOf l → r ≡ k → lineRun replay c w n l ≡ controlled k c w n l
-  control-line h e f g = replay-line h e ∙ ap (λ (x : Control). controlled x c w n l) (sym f ∙ g)
+pub control-line : {r k : Control} (c : Config) (w : World) (n : ℕ) (l : List ℕ) → r ≡ controlOf l → r ≡ k → controlled (controlOf l) c w n l ≡ controlled k c w n l
+control-line c w n l f g = ap (λ (x : Control). controlled x c w n l) (sym f ∙ g)
