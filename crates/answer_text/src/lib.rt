@@ -10,25 +10,22 @@ ghost use Rattle.pieces.specs.Memory.{Put};
 ghost use Rattle.answer_text.specs.Answer.{nameText, bytesText, blocksText, answerText, unreadableText};
 ghost use Rattle.answer_text.specs.Shown.{shownBy, shownOf};
 
+// The names one behind the other, in the order of the answers' numbers. Each starts where the one before it ends.
 fn put_name(out: &mut [u8], at: usize, kind: Kind, number: u8) -> usize
     requires { ⌜ at + 28 ≤ length (now out) ⌝ }
     ensures { λ r. ⌜ Put (now (out .entry)) at (nameText kind number) (now (out .exit)) r ⌝ }
     ensures { λ r. ⌜ r ≤ at + 28 ⌝ }
 {
-    match kind {
-        Kind::Continue => pieces::put(out, at, b"Continue"),
-        Kind::TooLarge => pieces::put(out, at, b"TooLarge"),
-        Kind::Handed => pieces::put(out, at, b"Handed"),
-        Kind::Pass => pieces::put(out, at, b"Pass"),
-        Kind::Served => pieces::put(out, at, b"Served"),
-        Kind::Plain => pieces::put(out, at, b"Plain"),
-        Kind::Whole => pieces::put(out, at, b"Whole"),
-        Kind::First => pieces::put(out, at, b"First"),
-        Kind::Refused => {
-            let k = pieces::put(out, at, b"refused-");
-            script_text::put_decimal(out, k, wide::u64_of_u8(number))
-        }
+    let starts = [0, 8, 16, 24, 30, 34, 40, 45, 50, 55];
+    let i = wide::usize_of_u8(apart::kind_number(kind));
+    let from = starts[i];
+    let to = starts[i + 1];
+    let names = b"refused-ContinueTooLargeHandedPassServedPlainWholeFirst";
+    let k = pieces::put(out, at, pieces::within(names, from, to));
+    if i == 0 {
+        return script_text::put_decimal(out, k, wide::u64_of_u8(number));
     }
+    k
 }
 
 // Both with a space before them, and one after.

@@ -7,8 +7,8 @@ use lib.ListN.{length, take, drop, length-drop, length-append}
 use lib.Seq.{take-all}
 use Rattle.pieces.specs.Memory.{part, Put}
 use Rattle.pieces.proofs.Memory.{part-patch}
-use Rattle.script.specs.Line.{cutAt, between, UpTo}
-use Rattle.script.proofs.Splitting.{next-field, last-field}
+use Rattle.script_cut.specs.Cut.{cutAt, between, UpTo}
+use Rattle.script_cut.proofs.Splitting.{next-field, last-field}
 use Rattle.coapdump.specs.Lines.{Ended}
 
 -- Some lines are printed, and the next one ends at an index.

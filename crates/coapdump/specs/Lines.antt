@@ -3,7 +3,7 @@ use Prim.Native.Nat.{ℕ, _+_, _%_, _^_, _≤_}
 use mathlib.Core.Path.{_≡_}
 use mathlib.Core.List.{List, [], _∷_, _++_}
 use lib.ListN.{length, drop}
-use Rattle.script.specs.Line.{cutAt}
+use Rattle.script_cut.specs.Cut.{cutAt}
 
 -- Cut at its line ends, the text is these lines and the rest, from an index on; the lines are counted on from a number, in 64 bits.
 pub record Ended (number : ℕ) (text : List ℕ) (count from : ℕ) : Type 0 where

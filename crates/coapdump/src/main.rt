@@ -43,12 +43,12 @@ fn print_lines(number: u64, text: &[u8], bytes: &mut [u8], out: &mut [u8]) -> Re
 {
     let mut count = number;
     let mut from = 0;
-    let mut end = script::mark_from(text, 0, b'\n');
+    let mut end = script_cut::mark_from(text, 0, b'\n');
     while end < text.len() {
         count = std::num::wrapping_add_u64(count, 1);
         print_line(count, &text[from..end], bytes, out);
         from = end + 1;
-        end = script::mark_from(text, from, b'\n');
+        end = script_cut::mark_from(text, from, b'\n');
     }
     Rest {
         number: count,

@@ -12,8 +12,8 @@ use Rattle.message_format.specs.Format.{Message, Meaning, malformed, means, mea
 use Rattle.message.specs.Reader.{readingOf, readOf}
 use Rattle.message.specs.declared.Packet.{Packet}
 use Rattle.message.specs.declared.Reading.the-variants as reading
-use Rattle.script.specs.Fields.{isPairs, pairsOf, pairsDecoded, Filled}
-use Rattle.script.specs.declared.Decoded.the-variants as decoded
+use Rattle.script_fields.specs.Fields.{isPairs, pairsOf, pairsDecoded, Filled}
+use Rattle.script_fields.specs.declared.Decoded.the-variants as decoded
 use Rattle.head_text.specs.Head.{headText}
 use Rattle.parts_text.specs.Parts.{partsText}
 use Rattle.parts_text.proofs.Places.{Read}

@@ -6,9 +6,9 @@ use lib.Dec.{leb}
 use lib.ListN.{length}
 use Rattle.message_format.specs.Format.{Message, Meaning, malformed, means, meaningOf}
 use Rattle.script_text.specs.Text.{decimal}
-use Rattle.script.specs.Fields.{isPairs, pairsOf}
-use Rattle.script.specs.declared.Decoded.{Decoded}
-use Rattle.script.specs.declared.Decoded.the-variants as decoded
+use Rattle.script_fields.specs.Fields.{isPairs, pairsOf}
+use Rattle.script_fields.specs.declared.Decoded.{Decoded}
+use Rattle.script_fields.specs.declared.Decoded.the-variants as decoded
 use Rattle.head_text.specs.Head.{headText}
 use Rattle.parts_text.specs.Parts.{partsText}
 

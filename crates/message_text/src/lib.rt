@@ -1,6 +1,6 @@
 // The line of a message, and that of its hex.
 use message::Reading;
-use script::Decoded;
+use script_fields::Decoded;
 ghost use mathlib.Core.Path.{_≡_};
 ghost use mathlib.Core.List.{_++_};
 ghost use Prim.Native.Nat.{_+_, _*_, _≤_};
@@ -8,7 +8,7 @@ ghost use lib.ListN.{length};
 ghost use Rattle.pieces.specs.Memory.{Put};
 ghost use Rattle.message_format.specs.Format.{meaningOf};
 ghost use Rattle.script_text.specs.Text.{decimal};
-ghost use Rattle.script.specs.Fields.{pairsOf, Filled};
+ghost use Rattle.script_fields.specs.Fields.{pairsOf, Filled};
 ghost use Rattle.message_text.specs.Text.{meaningText, lineDecoded, lineText};
 
 // The line's number, and what is said instead of a message.
@@ -46,7 +46,7 @@ fn decode_line(line: &[u8], bytes: &mut [u8]) -> Decoded
     if 131070 < line.len() {
         return Decoded::Bad;
     }
-    script::decode_pairs(line, bytes)
+    script_fields::decode_pairs(line, bytes)
 }
 
 // What a line says; its bytes are left in a buffer.

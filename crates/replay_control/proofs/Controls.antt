@@ -1,15 +1,14 @@
 -- A control line: what each test of the reader says of it. Assumes nothing.
 use mathlib.Core.Path.{_≡_}
-use mathlib.Core.Bool.{Bool, true, false}
+use mathlib.Core.Bool.{Bool, true, false, and-false}
 use mathlib.Core.List.{List, [], _∷_}
 use Prim.Native.Nat.{ℕ, zero, suc, _≤_, _<_}
 use native.Mathlib.Omega.{arith}
 use lib.Dec.{eqb}
 use lib.ListN.{length, drop}
-use Rattle.script.specs.Fields.{isNumber, value}
-use Rattle.script.specs.Line.{Bytes, fields, at, Fields}
-use Rattle.script.specs.declared.Ends.{Ends}
-use Rattle.script.proofs.Numbers.{and-false}
+use Rattle.script_fields.specs.Fields.{isNumber, value}
+use Rattle.script_cut.specs.Cut.{Bytes, fields, at, Fields}
+use Rattle.script_cut.specs.declared.Ends.{Ends}
 use Rattle.keys.specs.Keys.{same}
 use Rattle.replay_control.specs.declared.Control.the-variants.{Fresh, Show, Other}
 use Rattle.replay_control.specs.Control.{plainText, strictText, configOf, startOf, freshOf, controlOf}

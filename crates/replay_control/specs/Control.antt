@@ -4,8 +4,8 @@ use mathlib.Core.Bool.{Bool, true, false, cond, _&&_}
 use mathlib.Core.List.{List, [], _∷_, _++_}
 use lib.Dec.{eqb}
 use lib.ListN.{length}
-use Rattle.script.specs.Fields.{isNumber, value}
-use Rattle.script.specs.Line.{Bytes, fields, at}
+use Rattle.script_fields.specs.Fields.{isNumber, value}
+use Rattle.script_cut.specs.Cut.{Bytes, fields, at}
 use Rattle.script_text.specs.Text.{decimal}
 use Rattle.keys.specs.Keys.{same}
 use Rattle.replay_control.specs.declared.Control.{Control}

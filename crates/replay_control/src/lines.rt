@@ -1,14 +1,14 @@
 // The lines that a replay has besides calls: a fresh start under another configuration, and the state shown.
 use crate::Control;
 use config::Config;
-use script::Ends;
-use script::Number;
-use script::Split;
+use script_cut::Ends;
+use script_cut::Split;
+use script_fields::Number;
 ghost use mathlib.Core.Path.{_≡_};
 ghost use Prim.Native.Nat.{_+_, _≤_};
 ghost use lib.ListN.{length, drop};
 ghost use Rattle.pieces.specs.Memory.{Put};
-ghost use Rattle.script.specs.Line.{fields, Fields};
+ghost use Rattle.script_cut.specs.Cut.{fields, Fields};
 ghost use Rattle.replay_control.specs.Control.{configOf, startOf, controlOf, configText};
 
 // The last four fields of a fresh start: T, LIFETIME, U and V.
@@ -16,16 +16,16 @@ fn config_of(strict: bool, line: &[u8], ends: Ends) -> Control
     requires { ⌜ Fields (now line) ends ⌝ }
     ensures { λ r. ⌜ r ≡ configOf strict (fields (drop (ends .start) (now (line .entry)))) ⌝ }
 {
-    let Number::Value(t) = script::number_field(script::field(line, ends, 2)) else {
+    let Number::Value(t) = script_fields::number_field(script_cut::field(line, ends, 2)) else {
         return Control::Other;
     };
-    let Number::Value(l) = script::number_field(script::field(line, ends, 3)) else {
+    let Number::Value(l) = script_fields::number_field(script_cut::field(line, ends, 3)) else {
         return Control::Other;
     };
-    let Number::Value(u) = script::number_field(script::field(line, ends, 4)) else {
+    let Number::Value(u) = script_fields::number_field(script_cut::field(line, ends, 4)) else {
         return Control::Other;
     };
-    let Number::Value(v) = script::number_field(script::field(line, ends, 5)) else {
+    let Number::Value(v) = script_fields::number_field(script_cut::field(line, ends, 5)) else {
         return Control::Other;
     };
     Control::Fresh(Config {
@@ -42,10 +42,10 @@ fn start_of(line: &[u8], ends: Ends) -> Control
     requires { ⌜ Fields (now line) ends ⌝ }
     ensures { λ r. ⌜ r ≡ startOf (fields (drop (ends .start) (now (line .entry)))) ⌝ }
 {
-    if !keys::same_bytes(script::field(line, ends, 0), b"C") {
+    if !keys::same_bytes(script_cut::field(line, ends, 0), b"C") {
         return Control::Other;
     }
-    let mode = script::field(line, ends, 1);
+    let mode = script_cut::field(line, ends, 1);
     if keys::same_bytes(mode, b"strict") {
         return config_of(true, line, ends);
     }
@@ -62,7 +62,7 @@ pub fn control_of(line: &[u8]) -> Control
     if keys::same_bytes(line, b"S") {
         return Control::Show;
     }
-    let Split::Six(ends) = script::split_six(line, 0) else {
+    let Split::Six(ends) = script_cut::split_six(line, 0) else {
         return Control::Other;
     };
     start_of(line, ends)

@@ -9,8 +9,8 @@ use lib.ListN.{length, take, drop, length-drop, length-append}
 use lib.Seq.{take-at, take-all, length-take-le}
 use borrow.Author.Tests.{ltb-false, eq-eqb, ne-eqb}
 use Rattle.pieces.specs.Memory.{patch, Put}
-use Rattle.script.specs.Line.{cutAt, between, UpTo}
-use Rattle.script.proofs.Splitting.{next-field, last-field, some-field}
+use Rattle.script_cut.specs.Cut.{cutAt, between, UpTo}
+use Rattle.script_cut.proofs.Splitting.{next-field, last-field, some-field}
 use Rattle.line_input.specs.Sizes.{much}
 use Rattle.script_state.specs.declared.State.{State}
 use Rattle.script_state.specs.declared.Step.{Step}

@@ -6,12 +6,12 @@ use lib.Dec.{ltb, eqb}
 use lib.ListN.{length}
 use Rattle.config.specs.declared.Config.{Config}
 use Rattle.block_handler.specs.Call.{World}
-use Rattle.script.specs.Line.{cutAt}
+use Rattle.script_cut.specs.Cut.{cutAt}
 use Rattle.script_state.specs.declared.State.{State}
 use Rattle.script_state.specs.Start.{header}
 use Rattle.fresh_start.specs.Leaves.{After, worldIn}
 use Rattle.line_input.specs.Sizes.{much}
-use Rattle.runner.specs.Line.{lineRun}
+use Rattle.line_runner.specs.Line.{lineRun}
 
 -- Where a script stands: the number is that of the last line.
 pub record Standing : Type 0 where

@@ -1,7 +1,6 @@
 // The run of a script, line by line. Both programs are loops over it.
 use script_state::Step;
 
-mod line;
 mod lines;
 
 pub use lines::run_last;

@@ -1,6 +1,6 @@
 // The lines of a text, one after another.
 use crate::Rest;
-use crate::line::run_any;
+use line_runner::run_any;
 use script_state::Step;
 ghost use mathlib.Core.Path.{_≡_};
 ghost use Prim.Native.Nat.{_≤_};
@@ -9,7 +9,7 @@ ghost use Rattle.line_input.specs.Sizes.{much};
 ghost use Rattle.pieces.specs.Memory.{Put};
 ghost use Rattle.script_state.specs.Sizes.{outputSize};
 ghost use Rattle.script_state.specs.Start.{begun};
-ghost use Rattle.runner.specs.Line.{Lent};
+ghost use Rattle.line_runner.specs.Line.{Lent};
 ghost use Rattle.runner.specs.Lines.{linesIn, waitsIn, afterLast, lastText, unended, standing, afterScript, waitsAfterScript};
 
 // Runs each line that has ended in the text. The output that is left waits.
@@ -31,7 +31,7 @@ pub fn run_lines(
 {
     let mut here = step;
     let mut from = 0;
-    let mut end = script::mark_from(text, 0, b'\n');
+    let mut end = script_cut::mark_from(text, 0, b'\n');
     while end < text.len() {
         let next = script_state::counted(here);
         let ran = run_any(
@@ -45,7 +45,7 @@ pub fn run_lines(
         );
         here = script_state::flushed(out, ran);
         from = end + 1;
-        end = script::mark_from(text, from, b'\n');
+        end = script_cut::mark_from(text, from, b'\n');
     }
     Rest { step: here, from }
 }

@@ -1,20 +1,20 @@
 -- A whole line: what each test of the reader says of it, and what stands in the buffer. Assumes nothing.
 use mathlib.Core.Path.{_≡_, refl, sym, ap, _∙_}
-use mathlib.Core.Bool.{Bool, true, false, cond, _&&_}
+use mathlib.Core.Bool.{Bool, true, false, cond, _&&_, and-false}
 use mathlib.Core.List.{List, [], _∷_, _++_}
 use Prim.Native.Nat.{ℕ, _+_, _-_, _*_, _≤_, _<_}
 use native.Mathlib.Omega.{arith}
 use lib.Dec.{eqb, leb}
 use lib.ListN.{length, getD, take, drop}
 use lib.Seq.{take-take, take-add, take-append-le, drop-at, length-take-le}
-use borrow.Author.Tests.{lt-ltb, le-ltb, eq-eqb, ne-eqb}
-use Rattle.script.specs.Fields.{isNumber, value, isBytes, bytesOf, isOption, isGiven, optionBytes, Decodes}
-use Rattle.script.specs.Line.{Bytes, Said, unreadable, at, isCall, fields, requestOf, responseOf, six, kindOf, lineOf, between, Fields, CallIs, CallRead, saidBy, InBuffer}
+use borrow.Author.Tests.{lt-ltb, le-ltb, le-leb, lt-leb, eq-eqb, ne-eqb}
+use Rattle.script_fields.specs.Fields.{isNumber, value, isBytes, bytesOf, isOption, isGiven, optionBytes, Decodes}
+use Rattle.script.specs.Line.{Said, unreadable, isCall, requestOf, responseOf, six, kindOf, lineOf, CallIs, CallRead, saidBy, InBuffer}
 use Rattle.script.specs.declared.Call.{Call}
 use Rattle.script.specs.declared.Called.the-variants as called
-use Rattle.script.specs.declared.Ends.{Ends}
+use Rattle.script_cut.specs.Cut.{Bytes, at, fields, between, Fields}
+use Rattle.script_cut.specs.declared.Ends.{Ends}
 use Rattle.script.specs.declared.Line.the-variants as line
-use Rattle.script.proofs.Numbers.{and-false, own-small}
 
 -- ---- parts of the buffer
 
@@ -120,9 +120,14 @@ module _ (fs : List Bytes) where
   unfolding responseOf
   no-own e = simp (e, and-false)
 
-  pub large-own : leb (value (at fs 3)) 1 ≡ false → unreadable ≡ responseOf fs
+  own-small : (n : ℕ) → n ≡ value (at fs 3) → n ≤ 1 → leb (value (at fs 3)) 1 ≡ true
+  own-small n e h = rw (← e) (le-leb n 1 h)
+
+  pub large-own : (n : ℕ) → n ≡ value (at fs 3) → 1 < n → unreadable ≡ responseOf fs
   unfolding responseOf
-  large-own e = simp (e, and-false)
+  large-own n e h =
+      let l : leb (value (at fs 3)) 1 ≡ false = rw (← e) (lt-leb n 1 h) in
+      simp (l, and-false)
 
   pub no-head : isBytes (at fs 4) ≡ false → unreadable ≡ responseOf fs
   unfolding responseOf
@@ -160,7 +165,7 @@ module _ (fs : List Bytes) where
         × InBuffer (line.Response (record { call = c; own = eqb own 1; head = head })) m₁
     response-read {own} {head = head} n small b =
         let held = call-kept w (b .1) (omega arith) in (
-          a-response held own head (n .0) (n .1) (own-small (at fs 3) own (n .1) small) (b .0) (part-new (b .1)),
+          a-response held own head (n .0) (n .1) (own-small own (n .1) small) (b .0) (part-new (b .1)),
           (w .order, omega (arith, b .1 .to), b .1 .within),
         )
 

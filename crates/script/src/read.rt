@@ -1,23 +1,24 @@
 // What the six fields of a line say: a request, or a response.
 use crate::Call;
 use crate::Called;
-use crate::Decoded;
-use crate::Ends;
 use crate::Line;
-use crate::Number;
 use crate::Request;
 use crate::Response;
-use crate::Split;
-use crate::cut::field;
-use crate::cut::split_six;
-use crate::fields::bytes_field;
-use crate::fields::is_given;
-use crate::fields::number_field;
-use crate::fields::option_field;
+use script_cut::Ends;
+use script_cut::Split;
+use script_cut::field;
+use script_cut::split_six;
+use script_fields::Decoded;
+use script_fields::Number;
+use script_fields::bytes_field;
+use script_fields::is_given;
+use script_fields::number_field;
+use script_fields::option_field;
 ghost use mathlib.Core.Path.{_≡_};
 ghost use Prim.Native.Nat.{_*_, _≤_};
 ghost use lib.ListN.{length, drop};
-ghost use Rattle.script.specs.Line.{fields, Fields, requestOf, responseOf, lineOf, CallRead, saidBy, InBuffer};
+ghost use Rattle.script_cut.specs.Cut.{fields, Fields};
+ghost use Rattle.script.specs.Line.{requestOf, responseOf, lineOf, CallRead, saidBy, InBuffer};
 
 // What both kinds of line have: time, key, bare and payload.
 fn call_of(line: &[u8], ends: Ends, scratch: &mut [u8]) -> Called

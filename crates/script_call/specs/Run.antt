@@ -29,10 +29,10 @@ abbrev pub printed : ℕ → Done → List ℕ → List ℕ
 printed n d payload = answerText n (d .answer) (shownOf (d .answer) payload (d .world .upload) (d .world .response))
 
 -- The numbers of a call, as a line says them.
-abbrev requestNumbers : ℕ → ℕ → Bool → Bool → RequestNumbers
+abbrev pub requestNumbers : ℕ → ℕ → Bool → Bool → RequestNumbers
 requestNumbers time bare given1 given2 = record { time = time; bare = bare; given1 = given1; given2 = given2 }
 
-abbrev responseNumbers : ℕ → ℕ → Bool → ResponseNumbers
+abbrev pub responseNumbers : ℕ → ℕ → Bool → ResponseNumbers
 responseNumbers time bare own = record { time = time; bare = bare; own = own }
 
 -- A line that cannot be read changes nothing.

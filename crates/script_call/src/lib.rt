@@ -30,12 +30,11 @@ fn print<'a>(
     ensures { λ z. ⌜ Put (now (out .entry)) (step .at) (answered (step .state) (outcome .answer) (now (payload .entry)) (now (upload .entry)) (now (response .entry))) (now (out .exit)) (z .at) ⌝ }
     ensures { λ z. ⌜ z .at ≤ step .at + lineRoom ⌝ }
 {
-    let state = step.state;
-    let config = state.config;
-    let number = state.number;
+    let number = step.state.number;
     let answer = outcome.answer;
     let bytes = answer_text::shown(answer, payload, upload, response);
     let at = answer_text::put_answer(out, step.at, number, answer, bytes);
+    let config = step.state.config;
     let table = outcome.table;
     Step {
         state: State {
@@ -47,7 +46,7 @@ fn print<'a>(
     }
 }
 
-// A r. Its fields' bytes stand in the buffer.
+// A request. Its fields' bytes stand in the buffer.
 fn ask<'a>(
     step: Step,
     r: Request,
@@ -60,23 +59,19 @@ fn ask<'a>(
     requires { ⌜ (length (now upload) ≤ memorySize) × (length (now response) ≤ memorySize) × (step .at + lineRoom ≤ length (now out)) ⌝ }
     ensures { λ z. ⌜ Ran step (now (upload .entry)) (now (response .entry)) (asked r (now (scratch .entry))) (now (out .entry)) z (now (upload .exit)) (now (response .entry)) (now (out .exit)) ⌝ }
 {
-    let state = step.state;
-    let config = state.config;
-    let table = state.table;
-    let call = r.call;
-    let k = call.key;
-    let p = call.payload;
+    let k = r.call.key;
+    let p = r.call.payload;
     let o1 = r.block1;
     let o2 = r.block2;
     let numbers = RequestNumbers {
-        time: call.time,
-        bare: call.bare,
+        time: r.call.time,
+        bare: r.call.bare,
         given1: r.given1,
         given2: r.given2,
     };
     let outcome = block_handler::intercept_request(
-        config,
-        table,
+        step.state.config,
+        step.state.table,
         upload,
         response,
         numbers,
@@ -101,21 +96,17 @@ fn reply<'a>(
     requires { ⌜ (length (now upload) ≤ memorySize) × (length (now response) ≤ memorySize) × (step .at + lineRoom ≤ length (now out)) ⌝ }
     ensures { λ z. ⌜ Ran step (now (upload .entry)) (now (response .entry)) (replied r (now (scratch .entry))) (now (out .entry)) z (now (upload .entry)) (now (response .exit)) (now (out .exit)) ⌝ }
 {
-    let state = step.state;
-    let config = state.config;
-    let table = state.table;
-    let call = r.call;
-    let k = call.key;
-    let p = call.payload;
+    let k = r.call.key;
+    let p = r.call.payload;
     let h = r.head;
     let numbers = ResponseNumbers {
-        time: call.time,
-        bare: call.bare,
+        time: r.call.time,
+        bare: r.call.bare,
         own: r.own,
     };
     let outcome = block_handler::intercept_response(
-        config,
-        table,
+        step.state.config,
+        step.state.table,
         upload,
         response,
         numbers,

@@ -7,7 +7,7 @@ use native.Mathlib.Omega.{arith}
 use lib.Dec.{ltb}
 use lib.ListN.{length, getD, drop, length-append, drop-of-length-le}
 use borrow.Author.Tests.{lt-ltb, le-ltb}
-use Rattle.script.specs.Line.{Bytes}
+use Rattle.script_cut.specs.Cut.{Bytes}
 use Rattle.pieces.specs.Memory.{Put}
 use Rattle.script_text.specs.Text.{none}
 use Rattle.pieces.proofs.Puts.{put-none, put-then, put-as, put-length}

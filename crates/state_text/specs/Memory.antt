@@ -2,7 +2,7 @@
 use Prim.Native.Nat.{ℕ, _+_, _*_, _/_, _%_, _^_}
 use mathlib.Core.List.{List, [], _∷_, _++_}
 use lib.Bits.{bitXor}
-use Rattle.script.specs.Line.{Bytes}
+use Rattle.script_cut.specs.Cut.{Bytes}
 use Rattle.script_text.specs.Text.{hex}
 
 -- Times FNV's prime, modulo 2^64.

@@ -2,7 +2,7 @@
 use Prim.Native.Nat.{ℕ, _+_}
 use mathlib.Core.Bool.{Bool, cond}
 use mathlib.Core.List.{List, [], _∷_, _++_}
-use Rattle.script.specs.Line.{Bytes}
+use Rattle.script_cut.specs.Cut.{Bytes}
 use Rattle.script_text.specs.Text.{decimal, hex, maybeText, none}
 use Rattle.block_state.specs.declared.Assembled.{Assembled}
 use Rattle.block_state.specs.declared.Cached.{Cached}

@@ -13,17 +13,17 @@ use Rattle.script_call.proofs.print.Tie as tie
 
 put-answer-requires : tie.Need-put-answer-requires
 put-answer-requires c κs =
-    let start = c .before .before .before .before .before .before .before .before in
+    let start = c .before .before .before .before .before .before in
     let args = start .args in
     let short = shown-short (args .outcome .answer) (args .payload .now) (args .upload .now) (args .response .now) memorySize (start .pre .0 .0) (start .pre .0 .1) (start .pre .0 .2) in
     omega (arith, ap length (c .before .shown .ensures), short, start .pre .1)
 
 returns : tie.Need-returns
 returns c =
-    let start = c .before .before .before .before .before .before .before .before .before .before .before .before in
+    let start = c .before .before .before .before .before .before .before .before .before .before .before in
     let args = start .args in
     let short = shown-short (args .outcome .answer) (args .payload .now) (args .upload .now) (args .response .now) memorySize (start .pre .0 .0) (start .pre .0 .1) (start .pre .0 .2) in
-    let put = c .before .before .before in
+    let put = c .before .before .before .before in
     let shown = put .before .before .shown .ensures in (
       refl,
       (

@@ -1,5 +1,5 @@
 use native.Mathlib.Omega.{arith}
-use Rattle.script.proofs.Numbers.{number-good, number-bad}
+use Rattle.script_fields.proofs.Numbers.{number-good, number-bad}
 use Rattle.replay_control.proofs.Controls.{no-number, fresh-start}
 use borrow.Author.Needs.{needs}
 use Rattle.replay_control.proofs.lines.config_of.Statement.{statement}

@@ -1,5 +1,5 @@
 use mathlib.Core.Path.{sym, _∙_}
-use Rattle.script.proofs.Splitting.{six-fields, not-six-fields}
+use Rattle.script_cut.proofs.Splitting.{six-fields, not-six-fields}
 use Rattle.replay_control.proofs.Controls.{show-line, not-six, a-start}
 use borrow.Author.Needs.{needs}
 use Rattle.replay_control.proofs.lines.control_of.Statement.{statement}

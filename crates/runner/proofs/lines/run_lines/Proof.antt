@@ -5,7 +5,7 @@ use lib.ListN.{length, take}
 use Rattle.line_input.specs.Sizes.{much}
 use Rattle.script_state.specs.declared.Step.{Step}
 use Rattle.runner.specs.Lines.{standing}
-use Rattle.runner.proofs.Leaving.{lent-kept}
+use Rattle.line_runner.proofs.Leaving.{lent-kept}
 use Rattle.runner.proofs.Lining.{Going, going-start, going-on, going-done, stands, put-flushed, few}
 use borrow.Author.Needs.{needs}
 use Rattle.runner.proofs.lines.run_lines.Statement.{statement}

@@ -3,8 +3,8 @@ use native.Mathlib.Omega.{arith}
 use lib.ListN.{length}
 use borrow.Author.Needs.{needs}
 use Rattle.script.proofs.Lines.{no-time, no-bare, no-key, no-payload, call-bad, call-good, call-is}
-use Rattle.script.proofs.Numbers.{number-good, number-bad}
-use Rattle.script.proofs.Splitting.{fields-fit}
+use Rattle.script_fields.proofs.Numbers.{number-good, number-bad}
+use Rattle.script_cut.proofs.Splitting.{fields-fit}
 use Rattle.script.proofs.read.call_of.Statement.{statement}
 use Rattle.script.proofs.read.call_of.Tie as tie
 

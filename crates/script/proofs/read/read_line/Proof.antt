@@ -1,7 +1,7 @@
 use mathlib.Core.Path.{_∙_}
 use borrow.Author.Needs.{needs}
 use Rattle.script.proofs.Lines.{short-line, no-space, not-six, other-line, request-line, response-line}
-use Rattle.script.proofs.Splitting.{six-fields, not-six-fields}
+use Rattle.script_cut.proofs.Splitting.{six-fields, not-six-fields}
 use Rattle.script.proofs.read.read_line.Statement.{statement}
 use Rattle.script.proofs.read.read_line.Tie as tie
 

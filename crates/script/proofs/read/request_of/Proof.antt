@@ -3,8 +3,8 @@ use native.Mathlib.Omega.{arith}
 use lib.ListN.{length}
 use borrow.Author.Needs.{needs}
 use Rattle.script.proofs.Lines.{no-request, no-block1, no-block2, request-read}
-use Rattle.script.proofs.Splitting.{fields-fit}
-use Rattle.script.specs.Fields.{isGiven}
+use Rattle.script_cut.proofs.Splitting.{fields-fit}
+use Rattle.script_fields.specs.Fields.{isGiven}
 use Rattle.script.proofs.read.request_of.Statement.{statement}
 use Rattle.script.proofs.read.request_of.Tie as tie
 

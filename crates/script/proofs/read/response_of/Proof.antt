@@ -3,8 +3,8 @@ use native.Mathlib.Omega.{arith}
 use lib.ListN.{length}
 use borrow.Author.Needs.{needs}
 use Rattle.script.proofs.Lines.{no-response, no-own, large-own, no-head, response-read}
-use Rattle.script.proofs.Numbers.{number-good, number-bad, own-large}
-use Rattle.script.proofs.Splitting.{fields-fit}
+use Rattle.script_fields.proofs.Numbers.{number-good, number-bad}
+use Rattle.script_cut.proofs.Splitting.{fields-fit}
 use Rattle.script.proofs.read.response_of.Statement.{statement}
 use Rattle.script.proofs.read.response_of.Tie as tie
 
@@ -20,7 +20,7 @@ returns-3 : tie.Need-returns-3
 returns-3 c =
     let numbered = c .before .before .before .before in
     let own = rw (numbered .before .field .ensures) at (number-good _ _ _ (numbered .number-field .ensures) (c .before .before .own .given .1)) in
-    (large-own _ (own-large _ _ (own .1) (c .if1 .taken)), tt)
+    (large-own _ _ (own .1) (c .if1 .taken), tt)
 
 bytes-field-requires : tie.Need-bytes-field-requires
 bytes-field-requires c κs =

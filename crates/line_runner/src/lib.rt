@@ -1,0 +1,112 @@
+// One line, whatever it is: a call, a fresh start, or the state shown.
+use replay_control::Control;
+use script_state::Step;
+use script_state::buffers;
+ghost use mathlib.Core.Path.{_≡_};
+ghost use Prim.Native.Nat.{_+_, _≤_};
+ghost use lib.ListN.{length};
+ghost use Rattle.fresh_start.specs.Leaves.{Left};
+ghost use Rattle.line_input.specs.Sizes.{longest, much};
+ghost use Rattle.answer_text.specs.Answer.{unreadableText};
+ghost use Rattle.pieces.specs.Memory.{Put};
+ghost use Rattle.script_state.specs.Sizes.{lineRoom, memorySize};
+ghost use Rattle.line_runner.specs.Line.{Lent, calledIn, shownIn, controlledIn, lineIn};
+
+// A line that is a call, or that cannot be read.
+fn run(
+    step: Step,
+    line: &[u8],
+    upload: &mut [u8],
+    response: &mut [u8],
+    scratch: &mut [u8],
+    out: &mut [u8],
+) -> Step
+    requires { ⌜ Lent (now upload) (now response) (now scratch) (now out) ⌝ }
+    requires { ⌜ (length (now line) ≤ longest) × (step .at ≤ much) ⌝ }
+    ensures { λ r. ⌜ Left (calledIn (now (line .entry))) step (now (upload .entry)) (now (response .entry)) (now (out .entry)) r (now (upload .exit)) (now (response .exit)) (now (out .exit)) ⌝ }
+{
+    let u = buffers::memory_of(step.state.config.upload);
+    let v = buffers::memory_of(step.state.config.response);
+    script_call::run_line(
+        step,
+        line,
+        &mut upload[0..u],
+        &mut response[0..v],
+        scratch,
+        out,
+    )
+}
+
+// The state, as it is.
+fn show<'a>(step: Step, upload: &'a [u8], response: &'a [u8], out: &mut [u8]) -> Step
+    requires { ⌜ (memorySize ≤ length (now upload)) × (memorySize ≤ length (now response)) × (step .at + lineRoom ≤ length (now out)) ⌝ }
+    ensures { λ r. ⌜ Left shownIn step (now (upload .entry)) (now (response .entry)) (now (out .entry)) r (now (upload .entry)) (now (response .entry)) (now (out .exit)) ⌝ }
+{
+    let u = buffers::memory_of(step.state.config.upload);
+    let v = buffers::memory_of(step.state.config.response);
+    let state = step.state;
+    let at = state_text::put_state(
+        out,
+        step.at,
+        state.number,
+        state.table,
+        &upload[0..u],
+        &response[0..v],
+    );
+    Step { state, at }
+}
+
+// A line of a replay, that is none of a script's or one.
+fn run_control(
+    step: Step,
+    line: &[u8],
+    upload: &mut [u8],
+    response: &mut [u8],
+    scratch: &mut [u8],
+    out: &mut [u8],
+) -> Step
+    requires { ⌜ Lent (now upload) (now response) (now scratch) (now out) ⌝ }
+    requires { ⌜ (length (now line) ≤ longest) × (step .at ≤ much) ⌝ }
+    ensures { λ r. ⌜ Left (controlledIn (now (line .entry))) step (now (upload .entry)) (now (response .entry)) (now (out .entry)) r (now (upload .exit)) (now (response .exit)) (now (out .exit)) ⌝ }
+{
+    match replay_control::control_of(line) {
+        Control::Fresh(config) => fresh_start::begin(config, step, upload, response, out),
+        Control::Show => show(step, upload, response, out),
+        Control::Other => run(step, line, upload, response, scratch, out),
+    }
+}
+
+// A line that is longer than any that is read.
+fn too_long(step: Step, out: &mut [u8]) -> Step
+    requires { ⌜ step .at + lineRoom ≤ length (now out) ⌝ }
+    ensures { λ r. ⌜ r .state ≡ step .state ⌝ }
+    ensures { λ r. ⌜ Put (now (out .entry)) (step .at) (unreadableText (step .state .number)) (now (out .exit)) (r .at) ⌝ }
+    ensures { λ r. ⌜ r .at ≤ step .at + lineRoom ⌝ }
+{
+    let state = step.state;
+    let at = answer_text::put_unreadable(out, step.at, state.number);
+    Step { state, at }
+}
+
+// A line without its end; its number is counted already.
+pub fn run_any(
+    replay: bool,
+    step: Step,
+    line: &[u8],
+    upload: &mut [u8],
+    response: &mut [u8],
+    scratch: &mut [u8],
+    out: &mut [u8],
+) -> Step
+    requires { ⌜ Lent (now upload) (now response) (now scratch) (now out) ⌝ }
+    requires { ⌜ step .at ≤ much ⌝ }
+    ensures { λ r. ⌜ Left (lineIn replay (now (line .entry))) step (now (upload .entry)) (now (response .entry)) (now (out .entry)) r (now (upload .exit)) (now (response .exit)) (now (out .exit)) ⌝ }
+{
+    if line_input::LONGEST < line.len() {
+        return too_long(step, out);
+    }
+    if replay {
+        return run_control(step, line, upload, response, scratch, out);
+    }
+    run(step, line, upload, response, scratch, out)
+}
