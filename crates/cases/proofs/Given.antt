@@ -124,7 +124,7 @@ far-granted u d hu hd =
 
 -- ---- all of them
 
--- a push as the mission has it is one as Clocks.antt has it
+-- a push as the mission has it is one as Clocks.antt of demands has it
 own : (strict : Bool) (x : ℕ) (first : Sent) (rest : List Sent) (calls : List Call) → Granted (config strict) fresh key x first rest calls
     → GrantedOwn (config strict) fresh key x first rest calls
 own strict x first rest calls g =

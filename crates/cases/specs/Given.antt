@@ -1,4 +1,4 @@
--- What the statements of Twice.antt, Crossing.antt, Clocks.antt, Strict.antt and Pages.antt ask for can be given, in both modes.
+-- What the statements of Twice.antt, Crossing.antt and Pages.antt of many_calls, Clocks.antt of demands and Strict.antt of one_call ask for can be given, in both modes.
 use Prim.Native.Nat.{ℕ}
 use mathlib.Core.Bool.{Bool, true, false}
 use mathlib.Core.List.{List, [], _∷_, _++_, map}

@@ -27,6 +27,8 @@ use Rattle.one_call.specs.Handler.{Handler, entryAt}
 
 -- ---- A handler, and what is seen of its run
 
+-- A handler is any function from the configuration, the table and memories, and a call, to what is left of them and the answer (crates/one_call/specs/Handler.antt).
+
 -- Of one call: its key, its answer, and the body that is then shown, of the call's own payload and the upload memory that it left.
 pub record Seen : Type 0 where
   pub key : Name

@@ -1,4 +1,4 @@
--- EVERY PAIRING, IN THE CALLS. Pairing.antt says what a negotiation gives, for all sizes. Here: a refusal that a call's negotiation gives is what the call answers; and a block
+-- EVERY PAIRING, IN THE CALLS. crates/pairing says what a negotiation gives, for all sizes. Here: a refusal that a call's negotiation gives is what the call answers; and a block
 -- value, if a request is answered Block1 or a response Block2, is the one negotiated.
 use Prim.Native.Nat.{ℕ}
 use mathlib.Core.Bool.{false}

@@ -9,5 +9,6 @@ use Rattle.block_handler.specs.Call.{World, Call, Done}
 abbrev pub Handler : Type 0
 Handler = Config → World → Call → Done
 
+-- Entry i of its table.
 abbrev pub entryAt : World → ℕ → Entry
 entryAt w i = at (w .table .entries) i
