@@ -3,7 +3,7 @@ use script_state::buffers;
 ghost use mathlib.Core.Path.{_≡_};
 ghost use lib.ListN.{length};
 ghost use Rattle.line_input.specs.Sizes.{textSize};
-ghost use Rattle.runner.specs.Line.{Lent};
+ghost use Rattle.line_runner.specs.Line.{Lent};
 
 fn run(text: &mut [u8], upload: &mut [u8], response: &mut [u8], scratch: &mut [u8], out: &mut [u8])
     requires { ⌜ length (now text) ≡ textSize ⌝ }

@@ -3,7 +3,7 @@ use Prim.Native.Nat.{_+_, _≤_}
 use native.Mathlib.Omega.{arith}
 use lib.ListN.{length, length-take, length-drop}
 use Rattle.line_input.specs.Sizes.{longest, much}
-use Rattle.runner.proofs.Leaving.{lent-kept}
+use Rattle.line_runner.proofs.Leaving.{lent-kept}
 use borrow.Author.Needs.{needs}
 use Rattle.replay.proofs.run.Statement.{statement}
 use Rattle.replay.proofs.run.Tie as tie
