@@ -6,6 +6,9 @@ use option_table::Length;
 ghost use Prim.Native.Nat.{_≤_};
 ghost use lib.ListN.{length};
 
+// More than any of these messages takes.
+const ROOM: usize = 70000;
+
 fn print_number(n: usize) {
     let mut text = [0u8; 21];
     let at = script_text::put_decimal(&mut text, 0, n as u64);
@@ -61,9 +64,9 @@ fn show(writing: Writing, out: &[u8]) {
     io::write_all(1, b"\n");
 }
 
-// One message into an output that is all zeros before.
+// One message into an output of so many bytes, which are all zeros before. It makes the output itself, since to lend one from call to call is dear to prove.
 fn write<'a>(
-    out: &mut [u8],
+    room: usize,
     message_type: u8,
     code: u8,
     token: &'a [u8],
@@ -71,9 +74,11 @@ fn write<'a>(
     lengths: &'a [u32],
     values: &'a [u8],
     payload: &'a [u8],
-) {
-    let room = out.len();
-    pieces::zero_fill(out, 0, room);
+)
+    requires { ⌜ room ≤ 70000 ⌝ }
+{
+    let mut all = output();
+    let out = &mut all[..room];
     let writing = message_writer::to_bytes(
         out,
         message_type,
@@ -89,38 +94,39 @@ fn write<'a>(
 }
 
 // The messages of coap-lite's own documentation.
-fn request(out: &mut [u8]) {
+fn request(room: usize)
+    requires { ⌜ room ≤ 70000 ⌝ }
+{
     let token = [0u8, 0, 57, 116];
-    print_number(out.len());
-    write(out, 0, 1, &token, &[3, 11], &[9, 3], b"localhosttv1", b"");
+    print_number(room);
+    write(room, 0, 1, &token, &[3, 11], &[9, 3], b"localhosttv1", b"");
 }
 
-fn response(out: &mut [u8]) {
+fn response(room: usize)
+    requires { ⌜ room ≤ 70000 ⌝ }
+{
     let token = [0u8, 0, 57, 116];
-    print_number(out.len());
-    write(out, 2, 69, &token, &[], &[], b"", b"Hello World!");
+    print_number(room);
+    write(room, 2, 69, &token, &[], &[], b"", b"Hello World!");
 }
 
 // To the last byte of room, and one byte short.
 fn documented() {
-    let mut exact = [0u8; 22];
-    let mut short = [0u8; 21];
-    let mut shorter = [0u8; 20];
-    request(&mut exact);
-    request(&mut short);
-    response(&mut short);
-    response(&mut shorter);
+    request(22);
+    request(21);
+    response(21);
+    response(20);
 }
 
 // A message with no options, whose token and payload have so many bytes.
-fn plain(out: &mut [u8], message_type: u8, code: u8, token: usize, payload: usize) {
+fn plain(message_type: u8, code: u8, token: usize, payload: usize) {
     let bytes = zeros();
     print_number(message_type as usize);
     print_number(code as usize);
     print_number(token);
     print_number(payload);
     write(
-        out,
+        ROOM,
         message_type,
         code,
         pieces::within(&bytes, 0, token),
@@ -131,28 +137,28 @@ fn plain(out: &mut [u8], message_type: u8, code: u8, token: usize, payload: usiz
     );
 }
 
-fn heads(out: &mut [u8]) {
-    plain(out, 1, 1, 0, 0);
-    plain(out, 1, 1, 8, 1);
-    plain(out, 1, 1, 9, 1);
-    plain(out, 4, 1, 0, 0);
-    plain(out, 3, 255, 0, 0);
+fn heads() {
+    plain(1, 1, 0, 0);
+    plain(1, 1, 8, 1);
+    plain(1, 1, 9, 1);
+    plain(4, 1, 0, 0);
+    plain(3, 255, 0, 0);
 }
 
-fn empty(out: &mut [u8]) {
-    plain(out, 3, 0, 0, 0);
-    plain(out, 3, 0, 1, 0);
-    plain(out, 3, 0, 0, 1);
+fn empty() {
+    plain(3, 0, 0, 0);
+    plain(3, 0, 1, 0);
+    plain(3, 0, 0, 1);
 }
 
 // An option of a number, whose length is said to be len where there are so many bytes of values.
-fn option(out: &mut [u8], code: u8, number: u32, len: u32, values: usize) {
+fn option(code: u8, number: u32, len: u32, values: usize) {
     let bytes = zeros();
     print_number(number as usize);
     print_number(len as usize);
     print_number(values);
     write(
-        out,
+        ROOM,
         0,
         code,
         b"",
@@ -164,37 +170,37 @@ fn option(out: &mut [u8], code: u8, number: u32, len: u32, values: usize) {
 }
 
 // Both sides of each range that a nibble and its extension reach.
-fn edge(out: &mut [u8], n: u32) {
-    option(out, 1, n, 0, 0);
-    option(out, 1, 1, n, n as usize);
+fn edge(n: u32) {
+    option(1, n, 0, 0);
+    option(1, 1, n, n as usize);
 }
 
-fn ranges(out: &mut [u8]) {
-    edge(out, 0);
-    edge(out, 12);
-    edge(out, 13);
-    edge(out, 268);
-    edge(out, 269);
-    edge(out, 65535);
-    edge(out, 65536);
-    edge(out, 65804);
-    edge(out, 65805);
+fn ranges() {
+    edge(0);
+    edge(12);
+    edge(13);
+    edge(268);
+    edge(269);
+    edge(65535);
+    edge(65536);
+    edge(65804);
+    edge(65805);
 }
 
 // Two options, each with a value of one byte.
-fn two(out: &mut [u8], first: u32, second: u32) {
+fn two(first: u32, second: u32) {
     print_number(first as usize);
     print_number(second as usize);
-    write(out, 0, 1, b"", &[first, second], &[1, 1], b"ab", b"");
+    write(ROOM, 0, 1, b"", &[first, second], &[1, 1], b"ab", b"");
 }
 
 // Numbers that repeat and that fall; values that do not go with the lengths; an option in an empty message.
-fn orders(out: &mut [u8]) {
-    two(out, 11, 11);
-    two(out, 11, 3);
-    option(out, 1, 3, 2, 3);
-    option(out, 1, 3, 2, 1);
-    option(out, 0, 1, 0, 0);
+fn orders() {
+    two(11, 11);
+    two(11, 3);
+    option(1, 3, 2, 3);
+    option(1, 3, 2, 1);
+    option(0, 1, 0, 0);
 }
 
 // The n-th option of a number.
@@ -271,17 +277,16 @@ fn many() -> [u8; 1000000] {
     [0u8; 1000000]
 }
 
-fn output() -> [u8; 70000] {
-    [0u8; 70000]
+fn output() -> [u8; ROOM] {
+    [0u8; ROOM]
 }
 
 fn main() {
-    let mut out = output();
     documented();
-    heads(&mut out);
-    empty(&mut out);
-    ranges(&mut out);
-    orders(&mut out);
+    heads();
+    empty();
+    ranges();
+    orders();
     cut();
     finds();
     lengths();
