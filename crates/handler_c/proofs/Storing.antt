@@ -43,9 +43,9 @@ use Rattle.config.proofs.Config.Laws as C′
 use Rattle.replies.specs.declared.Reply.{Reply}
 use Rattle.replies.proofs.Reply as S
 use Rattle.replies.proofs.Reply.Laws as S′
-use Rattle.handler_c.specs.declared.Outcome.{Outcome}
-use Rattle.handler_c.proofs.Outcome as O
-use Rattle.handler_c.proofs.Outcome.Laws as O′
+use Rattle.outcomes.specs.declared.Outcome.{Outcome}
+use Rattle.outcomes.proofs.Outcome as O
+use Rattle.outcomes.proofs.Outcome.Laws as O′
 use Rattle.walks.proofs.Locals.{field-of}
 use Rattle.lent_table.proofs.store_change as s
 use Rattle.lent_table.proofs.store_change.Symbol.{name as #store}
