@@ -1,5 +1,4 @@
 // The handler for programs in C and Rust: its calls on a table and memories that the caller owns, with answers as numbers.
-use block_handler::Change;
 use block_state::Recorded;
 use block_state::RequestNumbers;
 use block_state::ResponseNumbers;
@@ -19,14 +18,6 @@ ghost use Rattle.block_handler.specs.Contract.{world, requestCall, responseCall
 ghost use Rattle.replies.specs.Found.{foundIn, bodyIn, servedHeadIn, chunkIn, sentIn};
 ghost use Rattle.handler_c.specs.Options.{plainConfig, blockRead};
 ghost use Rattle.handler_c.specs.Contract.{Replies};
-
-mod calls;
-
-// A call's answer in numbers, and what it changes of the table.
-pub struct Outcome {
-    pub reply: Reply,
-    pub change: Change,
-}
 
 #[no_mangle]
 pub extern "C" fn block_handler_default_config(
@@ -134,7 +125,7 @@ pub extern "C" fn block_handler_request<'a>(
         given1,
         given2,
     };
-    let out = calls::request(
+    let out = outcomes::request(
         old,
         config,
         upload,
@@ -169,7 +160,7 @@ pub extern "C" fn block_handler_response<'a>(
 {
     let old = *table;
     let numbers = ResponseNumbers { time, bare, own };
-    let out = calls::response(old, config, upload, response, numbers, key, head, payload);
+    let out = outcomes::response(old, config, upload, response, numbers, key, head, payload);
     lent_table::store_change(table, config.lifetime, time, out.change);
     out.reply
 }

@@ -38,7 +38,6 @@ use Rattle.block_state.specs.declared.ResponseNumbers.{ResponseNumbers}
 use Rattle.block_state.proofs.ResponseNumbers as N
 use Rattle.block_state.proofs.ResponseNumbers.Laws as N′
 use Rattle.block_handler.specs.Contract.{changed}
-use Rattle.block_handler.proofs.Change.Laws as G′
 use Rattle.block_table.specs.declared.Table.{Table}
 use Rattle.block_table.proofs.Table as T
 use Rattle.block_table.proofs.Table.Laws as T′
@@ -50,17 +49,17 @@ use Rattle.walks.proofs.Told.{Tolds, written, laws, Told-of, borrowed, number, 
 use Rattle.walks.proofs.Locals.{also}
 use Rattle.walks.proofs.Regrouped.{owned-by, left-of, splits, joins}
 use Rattle.walks.proofs.Borrowed.{comes-back, goes-in, starts, closes-at, returned}
-use Rattle.handler_c.specs.declared.Outcome.{Outcome}
-use Rattle.handler_c.proofs.Outcome as O
-use Rattle.handler_c.proofs.Outcome.Laws as O′
-use Rattle.handler_c.proofs.Storing.{mach, out, parts, Store, stores}
+use Rattle.outcomes.specs.declared.Outcome.{Outcome}
+use Rattle.outcomes.proofs.Outcome as O
+use Rattle.outcomes.proofs.Outcome.Laws as O′
+use Rattle.handler_c.proofs.Storing.{mach, out, parts, lifetime-in, reply-in, change-in, Store, stores}
 use Rattle.lent_table.proofs.store_change.Symbol as store-def
 use Rattle.lent_table.proofs.store_change.Symbol.{name as #store}
 use Rattle.lent_table.proofs.store_change.Met as store-thm
-use Rattle.handler_c.proofs.calls.response as g
-use Rattle.handler_c.proofs.calls.response.Symbol as callee-def
-use Rattle.handler_c.proofs.calls.response.Symbol.{name as #callee}
-use Rattle.handler_c.proofs.calls.response.Met as callee-thm
+use Rattle.outcomes.proofs.response as g
+use Rattle.outcomes.proofs.response.Symbol as callee-def
+use Rattle.outcomes.proofs.response.Symbol.{name as #callee}
+use Rattle.outcomes.proofs.response.Met as callee-thm
 use Rattle.handler_c.proofs.block_handler_response.Key.{name as #self}
 use Rattle.handler_c.proofs.block_handler_response as f
 use Rattle.handler_c.proofs.block_handler_response.Statement as stated
@@ -172,13 +171,12 @@ module _ {M : Type 1} (𝓤 : URA M) (H : Heap 𝓤) (A : Atoms 𝓤) (W : Given
           -- the table was only read: its borrow is closed as it was, and passed on with the change
           move ! (2 ∷ 3 ∷ 4 ∷ 5 ∷ []) $ closes-at T.the-type T′.the-laws T′.the-plain b o ! tt h was $
           assigns ! (addr ! (from ! (hop ! (look ! 7 refl) (stop !)))) (from ! (stop !)) (init ! 39 refl (tt, tt)) $
-          rewrite ! 9 (λ (w : Val). ‵ (fat fullShare K′.mir (s .1 .0) 0 w)) (λ i. LL.val K.the-type K′.the-laws (a .1 .0)) refl $
           stores ! at-mem run fm known-store (κs .0) (qs .0) b o (a .0 .name) h (a .1 .0 .lifetime) (numbers .time) (r .change) fits-lifetime (are .1 .1 .1 .1 .0 .1) (parts r is .1)
-          (also ! 37 refl (and-then ! (load ! (from ! (fld ! {τ = tyInt w64} {d = 16} refl (stop !))) (look-in ! 7 (sub ! 2 {τ = tyInt w64} {d = 16} refl (whole !))))
-          (also ! 13 refl (and-then ! (load ! (from ! (fld ! {τ = G′.mir} {d = 56} refl (stop !))) (look-in ! 29 (sub ! 1 {τ = G′.mir} {d = 56} refl (whole !)))) (no-more !))))) (
+          (also ! 37 refl (and-then ! (lifetime-in ! 7 (a .1 .0) refl refl)
+          (also ! 13 refl (and-then ! (change-in ! 29 r refl refl) (no-more !))))) (
           land ! (from ! (stop !)) (init ! 36 refl (tt, tt)) $
           -- the numbers are returned
-          assigns ! (of-opd ! (load ! (from ! (fld ! {τ = S′.mir} {d = 0} refl (stop !))) (look-in ! 30 (sub ! 0 {τ = S′.mir} {d = 0} refl (whole !)))))
+          assigns ! (of-opd ! (reply-in ! 30 r refl refl))
           (from ! (stop !)) (init ! 4 refl (LL.lawful S.the-type S′.the-laws 𝓤 H A W .typed (r .reply) _ (parts r is .0) .0)) $
           returned T.the-type T′.the-laws T′.the-plain ! f.ended g.ended (f.clauses 𝓤 H A at-mem run) (g.clauses 𝓤 H A at-mem run) ((κs, qs, tt, a, at), tt) to
           (κs .0) (qs .0) (a .0 .name) (left r) Toks S.the-type S′.the-laws S′.the-plain (r .reply) (parts r is .0) (r .reply) r (id⊢ 𝓤 _) (last r) (λ z.
@@ -200,5 +198,5 @@ block-handler-response-spec 𝓤 H 𝓜 𝓖 𝓡 =
     entered 𝓤 H (tripleOf 𝓤 H (𝓖 .A) f.signature (f.spec 𝓤 H (𝓖 .A) (𝓜 .mem) (𝓡 .run)))
     (tables 𝓤 H 𝓜 𝓡 code.env .C) (tables 𝓤 H 𝓜 𝓡 code.env .Λ) #self code.function (code.unfolded 𝓤 H 𝓜 𝓡)
     (met 𝓤 H (𝓖 .A) (givenOf 𝓤 H 𝓜 𝓖) (𝓜 .mem) (𝓡 .run) (tablesOf 𝓤 H 𝓜 (tables 𝓤 H 𝓜 𝓡 code.env))
-    (cited 𝓤 H (Callee 𝓤 H (𝓖 .A) (givenOf 𝓤 H 𝓜 𝓖) (𝓜 .mem) (𝓡 .run)) 𝓜 𝓡 code.env #callee callee-def.routine code.calls-handler-c·calls·response (callee-thm.met 𝓤 H 𝓜 𝓖 𝓡))
+    (cited 𝓤 H (Callee 𝓤 H (𝓖 .A) (givenOf 𝓤 H 𝓜 𝓖) (𝓜 .mem) (𝓡 .run)) 𝓜 𝓡 code.env #callee callee-def.routine code.calls-outcomes·response (callee-thm.met 𝓤 H 𝓜 𝓖 𝓡))
     (cited 𝓤 H (Store 𝓤 H (𝓖 .A) (𝓜 .mem) (𝓡 .run)) 𝓜 𝓡 code.env #store store-def.routine code.calls-lent-table·store-change (store-thm.met 𝓤 H 𝓜 𝓖 𝓡)))

@@ -2,8 +2,8 @@ use mathlib.Core.Path.{ap, _∙_}
 use Rattle.block_handler.specs.Call.{Done}
 use Rattle.replies.specs.Reply.{replyOf}
 use borrow.Author.Needs.{needs}
-use Rattle.handler_c.proofs.calls.response.Statement.{statement}
-use Rattle.handler_c.proofs.calls.response.Tie as tie
+use Rattle.outcomes.proofs.response.Statement.{statement}
+use Rattle.outcomes.proofs.response.Tie as tie
 
 returns : tie.Need-returns
 returns c =

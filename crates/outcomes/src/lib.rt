@@ -1,11 +1,18 @@
 // What the two calls change of a table by value, with the answer in numbers.
-use crate::Outcome;
+use block_handler::Change;
 use block_state::RequestNumbers;
 use block_state::ResponseNumbers;
 use block_table::Table;
 use config::Config;
+use replies::Reply;
 ghost use Rattle.block_handler.specs.Contract.{world, requestCall, responseCall, changed};
-ghost use Rattle.handler_c.specs.Contract.{Replies};
+ghost use Rattle.outcomes.specs.Contract.{Replies};
+
+// A call's answer in numbers, and what it changes of the table.
+pub struct Outcome {
+    pub reply: Reply,
+    pub change: Change,
+}
 
 pub fn request<'a>(
     table: Table,
