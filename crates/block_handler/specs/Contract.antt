@@ -1,4 +1,4 @@
--- The contract of a public call: its result and every byte of both memories are the definition's.
+-- The contract of a public call: its answer, the table and every byte of both memories are the definition's.
 use Prim.Native.Nat.{ℕ, _*_}
 use mathlib.Core.Bool.{cond}
 use mathlib.Core.Path.{_≡_}

@@ -27,7 +27,7 @@ pub record Lent : Type 0 where
 abbrev pub lent : Entry → List ℕ → Answer → Lent
 lent e piece a = record { entry = e; piece = piece; answer = a }
 
--- The entry is in use, was not touched later, and its state is within the limits; the piece, of n bytes, is of this size.
+-- The entry is in use, was not touched later, and its state is within the limits; the piece, of n bytes, is of this size, which is below 2 ^ 32.
 -- The checks of a call are made by whoever lends the entry, and imply all that is asked here (`proofs/Same.antt`).
 unfoldable pub usable : Config → ℕ → ℕ → Entry → ℕ → Bool
 usable c size time e n = eqb n size && ltb n 4294967296 && e .used && leb (e .touched) time && stateOk c (e .state)

@@ -28,7 +28,7 @@ pub struct Seen {
     pub place: usize,
 }
 
-// A request on an entry that is lent, in use for its key: as `block_handler_find_and_free` left it, or a new key's, with its key stored and nothing else. Its state is
+// A request on an entry that is lent, in use for its key: as `block_handler_find_and_free` left it, or a new key's: used, with its key, all else zeros. Its state is
 // stepped, and it is touched. `home` and `away` are where the key's two pieces begin. The checks of a call (limits, clock, expiry, place) are the caller's to
 // make first: then nothing is refused here that a call would not refuse.
 #[no_mangle]

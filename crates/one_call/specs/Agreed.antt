@@ -1,5 +1,5 @@
 -- EVERY PAIRING, IN THE CALLS. crates/pairing says what a negotiation gives, for all sizes. Here: a refusal that a call's negotiation gives is what the call answers; and a block
--- value, if a request is answered Block1 or a response Block2, is the one negotiated.
+-- value, if a request is answered Block1 or a response Block2, is the one negotiated (in a response with the chunk's own "more").
 use Prim.Native.Nat.{ℕ}
 use mathlib.Core.Bool.{false}
 use mathlib.Core.Path.{_≡_}

@@ -25,7 +25,7 @@ abbrev pub isGiven : MaybeBlock → Bool
 isGiven Absent = false
 isGiven (Given b) = true
 
--- The answer took a block: Continue, Handed, or a Served that carries Block1 too.
+-- The answer says that a block was taken: Continue, Handed, or a Served that carries Block1 too. (A refusal 8 may follow a body completed; it says nothing of it.)
 abbrev pub tookBlock : Answer → Bool
 tookBlock (Continue b) = true
 tookBlock (TooLarge b) = false
@@ -84,7 +84,7 @@ pub record Fine (l : Assembled) (p : ℕ) (b : BlockValue) : Type 0 where
   pub afresh : b .num ≡ 0 → l .len ≡ 0
 
 pub record StrictSaysNo (h : Handler) : Type 0 where
-  -- Any answer that took a block took it rightly.
+  -- Any answer that says that a block was taken is given rightly.
   pub taken : (c : Config) (w : World) (q : Call) (r : Request) → c .strict ≡ true → q .what ≡ request r → tookBlock (h c w q .answer) ≡ true
       → (b : BlockValue) × RightlyTaken c (assembledFor c w q) r b
   -- Badly formed: 10, misplaced or not. (So 10 stands before 9.)
