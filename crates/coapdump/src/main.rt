@@ -1,7 +1,7 @@
 // CoAP messages in hex on standard input, one a line and any number of them: the parts of each, a line on standard output.
 ghost use mathlib.Core.Path.{_≡_};
 ghost use Prim.Native.Nat.{_≤_};
-ghost use lib.ListN.{length, take, replicate};
+ghost use lib.ListN.{length, take};
 ghost use Rattle.message_text.specs.Text.{lineText};
 ghost use Rattle.coapdump.specs.Lines.{Ended};
 
@@ -11,19 +11,13 @@ struct Rest {
     from: usize,
 }
 
-// The bytes of the longest line. Lending a buffer as a slice needs its length.
-fn bytes_buffer() -> [u8; 65535]
-    ensures { λ r. ⌜ r ≡ replicate 65535 0 ⌝ }
-    ensures { λ r. ⌜ 65535 ≡ length r ⌝ }
-{
+// The bytes of the longest line.
+fn bytes_buffer() -> [u8; 65535] {
     [0; 65535]
 }
 
 // What the longest line says: 8 bytes for each of its bytes, and 64.
-fn output_buffer() -> [u8; 524344]
-    ensures { λ r. ⌜ r ≡ replicate 524344 0 ⌝ }
-    ensures { λ r. ⌜ 524344 ≡ length r ⌝ }
-{
+fn output_buffer() -> [u8; 524344] {
     [0; 524344]
 }
 
