@@ -7,9 +7,9 @@ use Rattle.entries.proofs.Entry as T
 use Rattle.replies.specs.declared.Reply.{Reply}
 use Rattle.replies.proofs.Reply as S
 use Rattle.replies.proofs.Reply.Laws as S′
-use Rattle.lent.specs.declared.Outcome.{Outcome}
-use Rattle.lent.proofs.Outcome as O
-use Rattle.lent.proofs.Outcome.Laws as O′
+use Rattle.lent_steps.specs.declared.Outcome.{Outcome}
+use Rattle.lent_steps.proofs.Outcome as O
+use Rattle.lent_steps.proofs.Outcome.Laws as O′
 use Rattle.lent.proofs.Turns.{mach}
 
 abbrev pub ans : Reply → Val

@@ -22,8 +22,8 @@ use Rattle.places.proofs.Put.{opened-fits}
 use Rattle.judge.specs.Limits.{memoriesOk}
 use Rattle.block_handler.specs.Call.{World, Call, done, whatOk, withinLimits, rowOf, callAt, call}
 use Rattle.judge.proofs.Judged.{ConfigFits, config-fits}
-use Rattle.lent.specs.Lent.{Lent, usable, requestRoom, responseRoom, requestLent, responseLent}
-use Rattle.lent.proofs.Forms.{with-room}
+use Rattle.lent_steps.specs.Lent.{Lent, usable, requestRoom, responseRoom, requestLent, responseLent}
+use Rattle.lent_steps.proofs.Forms.{with-room}
 
 -- The pieces of the key at place i.
 module _ (c : Config) (w : World) (i : ℕ) where

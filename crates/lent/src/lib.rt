@@ -9,16 +9,8 @@ ghost use Rattle.block_state.specs.Contract.{asking, replying};
 ghost use Rattle.entries.specs.Entries.{holds};
 ghost use Rattle.block_table.specs.Table.{sweep};
 ghost use Rattle.places.specs.Places.{place};
-ghost use Rattle.lent.specs.Lent.{requestLent, responseLent, Leaves};
+ghost use Rattle.lent_steps.specs.Lent.{requestLent, responseLent, Leaves};
 ghost use Rattle.lent.specs.Row.{firstOf, seenNext};
-
-mod steps;
-
-// What a call leaves of an entry, and its answer in numbers.
-pub struct Outcome {
-    pub entry: Entry,
-    pub reply: Reply,
-}
 
 // What a walk has seen of the row so far: the first entry for the key and the first free one, each the number of entries seen if there is none;
 // and the place that sixteen entries seen so would give.
@@ -47,7 +39,7 @@ pub extern "C" fn block_handler_lent_request<'a>(
         (asking numbers (now (block1 .entry)) (now (block2 .entry)) (now (payload .entry)))) (now (e .exit)) (now (piece .exit)) r ⌝ }
 {
     let old = *e;
-    let out = steps::request(
+    let out = lent_steps::request(
         old,
         config,
         home,
@@ -76,7 +68,7 @@ pub extern "C" fn block_handler_lent_response<'a>(
         (replying numbers (now (head .entry)) (now (payload .entry)))) (now (e .exit)) (now (piece .exit)) r ⌝ }
 {
     let old = *e;
-    let out = steps::response(old, config, piece, numbers, head, payload);
+    let out = lent_steps::response(old, config, piece, numbers, head, payload);
     *e = out.entry;
     out.reply
 }

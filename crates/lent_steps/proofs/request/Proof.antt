@@ -1,10 +1,10 @@
 use mathlib.Core.Path.{sym, _∙_}
 use borrow.Author.Tests.{not-true, not-false}
 use Rattle.request_step.proofs.Steps.{step-read}
-use Rattle.lent.proofs.Forms.{room-of, leaves-all, leaves-step}
+use Rattle.lent_steps.proofs.Forms.{room-of, leaves-all, leaves-step}
 use borrow.Author.Needs.{needs}
-use Rattle.lent.proofs.steps.request.Statement.{statement}
-use Rattle.lent.proofs.steps.request.Tie as tie
+use Rattle.lent_steps.proofs.request.Statement.{statement}
+use Rattle.lent_steps.proofs.request.Tie as tie
 
 returns : tie.Need-returns
 returns c =

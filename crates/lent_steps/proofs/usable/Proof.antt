@@ -1,7 +1,7 @@
-use Rattle.lent.specs.Lent.{usable}
+use Rattle.lent_steps.specs.Lent.{usable}
 use borrow.Author.Needs.{needs}
-use Rattle.lent.proofs.steps.usable.Statement.{statement}
-use Rattle.lent.proofs.steps.usable.Tie as tie
+use Rattle.lent_steps.proofs.usable.Statement.{statement}
+use Rattle.lent_steps.proofs.usable.Tie as tie
 
 returns : tie.Need-returns
 unfolding usable

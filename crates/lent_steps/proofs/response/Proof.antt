@@ -1,9 +1,9 @@
 use mathlib.Core.Path.{sym, _∙_}
 use borrow.Author.Tests.{not-true, not-false}
-use Rattle.lent.proofs.Forms.{reply-room, leaves-all, leaves-step}
+use Rattle.lent_steps.proofs.Forms.{reply-room, leaves-all, leaves-step}
 use borrow.Author.Needs.{needs}
-use Rattle.lent.proofs.steps.response.Statement.{statement}
-use Rattle.lent.proofs.steps.response.Tie as tie
+use Rattle.lent_steps.proofs.response.Statement.{statement}
+use Rattle.lent_steps.proofs.response.Tie as tie
 
 returns : tie.Need-returns
 returns c =

@@ -1,5 +1,4 @@
 // A call's step on an entry by value, with the answer in numbers.
-use crate::Outcome;
 use block_state::Answer;
 use block_state::RequestNumbers;
 use block_state::ResponseNumbers;
@@ -7,11 +6,18 @@ use block_state::Stepped;
 use block_state::limits;
 use config::Config;
 use entries::Entry;
+use replies::Reply;
 ghost use mathlib.Core.Path.{_≡_};
 ghost use Rattle.block_state.specs.Contract.{asking, replying};
 ghost use Rattle.entries.specs.Entries.{inUse};
 ghost use Rattle.replies.specs.Reply.{replyOf};
-ghost use Rattle.lent.specs.Lent.{usable, requestRoom, responseRoom, requestLent, responseLent, Leaves};
+ghost use Rattle.lent_steps.specs.Lent.{usable, requestRoom, responseRoom, requestLent, responseLent, Leaves};
+
+// What a call leaves of an entry, and its answer in numbers.
+pub struct Outcome {
+    pub entry: Entry,
+    pub reply: Reply,
+}
 
 // The entry is in use, was not touched later, and its state is within the limits; the piece, of n bytes, is of this size.
 fn usable(config: Config, size: usize, time: u64, e: Entry, n: usize) -> bool
