@@ -56,7 +56,7 @@ fn show<'a>(step: Step, upload: &'a [u8], response: &'a [u8], out: &mut [u8]) ->
     Step { state, at }
 }
 
-// A line of a replay, that is none of a script's or one.
+// A line of a replay: a fresh start, the state shown, or a line as a script has it.
 fn run_control(
     step: Step,
     line: &[u8],
