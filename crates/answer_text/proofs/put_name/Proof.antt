@@ -22,7 +22,8 @@ put-decimal-requires : tie.Need-put-decimal-requires
 put-decimal-requires c κs =
     let put = c .before .before .before .before .before in
     let index = put .before .before .before .before .before in
-    omega (arith, put .put .ensures .to, put .put .kept, ap length (put .before .within .ensures), word-short (index .before .before .before .args .kind) (index .usize-of-u8 .ensures .0 ∙ index .before .kind-number .ensures))
+    let short = word-short (index .before .before .before .args .kind) (index .usize-of-u8 .ensures .0 ∙ index .before .kind-number .ensures) in
+    omega (arith, put .put .ensures .to, put .put .kept, ap length (put .before .within .ensures), short)
 
 returns : tie.Need-returns
 returns c =
