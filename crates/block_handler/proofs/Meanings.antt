@@ -32,13 +32,16 @@ use Rattle.block_table.proofs.Changed.{with-same}
 use Rattle.places.specs.declared.Place.the-variants.{At}
 use Rattle.places.specs.declared.Sight.{Sight}
 use Rattle.places.specs.Places.{place, opened}
+use Rattle.places.specs.Sight.{Sees}
+use Rattle.places.proofs.Sighted.{seen-back}
+use Rattle.table_change.specs.Change.{changed, unchanged, openedFrom, changeTo}
 use Rattle.judge.specs.declared.Lengths.{Lengths}
 use Rattle.judge.specs.declared.Verdict.{Verdict}
 use Rattle.judge.specs.declared.Verdict.the-variants as verdict
 use Rattle.judge.specs.Verdict.{lengths, messageOk, limitsOk, verdictOf, HasPlace}
 use Rattle.judge.proofs.Judged.{verdict-is, at-place, seen-entry, seen-freed}
 use Rattle.block_handler.specs.Call.{World, Call, Done, done, whatOk, withinLimits, tableAfter, requestLeft, responseLeft, callAt, rowOf, call}
-use Rattle.block_handler.specs.Contract.{world, changed, openedFrom, changeTo, askedAt}
+use Rattle.block_handler.specs.Contract.{world, askedAt}
 
 -- ---- a call by its verdict
 
@@ -82,9 +85,9 @@ unfolding whatOk messageOk
 response-ok r = refl
 
 -- a refusal leaves all as it was
-pub refusal : (w : World) (t : Table) (n : ℕ) (a : Answer) → t ≡ w .table → a ≡ Refused n
-    → done (world t (w .upload) (w .response)) a ≡ done w (Refused n)
-refusal w t n a e f = λ k. done (world (e k) (w .upload) (w .response)) (f k)
+pub refusal : (c : Config) (w : World) (time : ℕ) (key : Name) (s : Sight) (n : ℕ) → Sees c time key (w .table) s
+    → done (world (changed (c .lifetime) time (w .table) (unchanged s n)) (w .upload) (w .response)) (Refused n) ≡ done w (Refused n)
+refusal c w time key s n sees = λ k. done (world (seen-back c time key (w .table) s sees k) (w .upload) (w .response)) (Refused n)
 
 -- ---- a call at its place i, seen so
 

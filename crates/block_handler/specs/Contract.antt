@@ -1,6 +1,5 @@
 -- The contract of a public call: its answer, the table and every byte of both memories are the definition's.
 use Prim.Native.Nat.{ℕ, _*_}
-use mathlib.Core.Bool.{cond}
 use mathlib.Core.Path.{_≡_}
 use mathlib.Core.List.{List}
 use Rattle.pieces.specs.Memory.{pieceOf}
@@ -10,19 +9,15 @@ use Rattle.block_state.specs.declared.RequestNumbers.{RequestNumbers}
 use Rattle.block_state.specs.declared.ResponseNumbers.{ResponseNumbers}
 use Rattle.block_state.specs.Message.{request, response}
 use Rattle.block_state.specs.Contract.{asking, replying}
-use Rattle.block_state.specs.declared.Stepped.{Stepped}
 use Rattle.request_step.specs.declared.Asked.{Asked}
 use Rattle.request_step.specs.Step.{stepWith}
 use Rattle.keys.specs.declared.Key.{Key}
 use Rattle.keys.specs.Keys.{Name, stored}
 use Rattle.entries.specs.declared.Entry.{Entry}
-use Rattle.entries.specs.Entries.{inUse, startFrom, swept}
 use Rattle.block_table.specs.declared.Table.{Table}
-use Rattle.block_table.specs.Table.{sweep, tableWith}
 use Rattle.places.specs.declared.Sight.{Sight}
 use Rattle.judge.specs.declared.Lengths.{Lengths}
 use Rattle.judge.specs.Verdict.{HasPlace}
-use Rattle.block_handler.specs.declared.Change.{Change}
 use Rattle.block_handler.specs.Call.{World, Call, Done, done, requestLeft, call}
 
 abbrev pub world : Table → List ℕ → List ℕ → World
@@ -39,23 +34,11 @@ responseCall q key head payload = record { time = q .time; key = key; what = res
 abbrev pub Meant : Config → World → Call → World → Answer → Type 0
 Meant c w q w′ a = done w′ a ≡ call c w q
 
--- The table with a call's change made.
-abbrev pub changed : ℕ → ℕ → Table → Change → Table
-changed lifetime time t g = tableWith (g .clock) (cond (g .freed) (sweep lifetime time (t .entries)) (t .entries)) (g .at) (g .entry)
-
 -- ---- How the code makes a call at its place. No contract of the two calls cites these.
-
--- The entry that a call on the key starts from, of the one at its place before the sweep.
-abbrev pub openedFrom : ℕ → ℕ → Key → Entry → Entry
-openedFrom lifetime time key e = startFrom key (swept lifetime time e)
 
 -- The table seen so has place i for a call on the key of this name, stored so.
 abbrev pub Placed : Config → Sight → Key → ℕ → Lengths → ℕ → Name → Table → Type 0
 Placed c s key time n i name t = (key ≡ stored name) × HasPlace c s time name n i t
-
--- What a step on the entry at i leaves, as a change.
-abbrev pub changeTo : Sight → ℕ → ℕ → Key → Stepped → Change
-changeTo s i time key g = record { freed = s .freed; clock = time; at = i; entry = inUse key time (g .state); answer = g .answer }
 
 -- A request at its place i in the swept row, where it starts from entry e, with its options read.
 abbrev pub askedAt : Config → World → List Entry → ℕ → Entry → Asked → List ℕ → Done

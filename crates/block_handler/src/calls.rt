@@ -1,18 +1,15 @@
 // The two calls.
-use crate::Change;
 use crate::Outcome;
-use block_state::Answer;
 use block_state::RequestNumbers;
 use block_state::ResponseNumbers;
-use block_state::Stepped;
 use block_table::Table;
 use config::Config;
-use entries::Entry;
 use judge::Lengths;
 use judge::Verdict;
 use keys::Key;
 use places::Sight;
 use request_step::Asked;
+use table_change::Change;
 ghost use mathlib.Core.Path.{_≡_};
 ghost use mathlib.Core.List.{List};
 ghost use Prim.Native.Nat.{ℕ, _<_};
@@ -21,55 +18,11 @@ ghost use Rattle.block_state.specs.Message.{response};
 ghost use Rattle.block_state.specs.Contract.{replying};
 ghost use Rattle.block_table.specs.Table.{sweep};
 ghost use Rattle.places.specs.Places.{opened};
-ghost use Rattle.places.specs.Sight.{Sees};
 ghost use Rattle.keys.specs.Keys.{Name};
 ghost use Rattle.judge.specs.Verdict.{lengths};
+ghost use Rattle.table_change.specs.Change.{changed};
 ghost use Rattle.block_handler.specs.Call.{done, callAt};
-ghost use Rattle.block_handler.specs.Contract.{world, requestCall, responseCall, Meant, changed, openedFrom, Placed, changeTo, askedAt};
-
-// A refusal by checks 1 to 3 changes nothing: the entry that is seen is put back where it stood.
-fn refused(sight: Sight, n: u8) -> Change
-    ensures { λ r. ⌜ ((c : Config) (lifetime time : ℕ) (k : Name) (t : Table) → Sees c time k t sight → changed lifetime time t r ≡ t) × (r .answer ≡ Answer.Refused n) × (r .at ≡ sight .at) ⌝ }
-{
-    let entry = sight.entry;
-    let answer = Answer::Refused(n);
-    Change {
-        freed: false,
-        clock: sight.clock,
-        at: sight.at,
-        entry,
-        answer,
-    }
-}
-
-// The entry that a call at its place starts from.
-fn opened_entry(config: Config, sight: Sight, time: u64, key: Key) -> Entry
-    ensures { λ r. ⌜ r ≡ openedFrom (config .lifetime) time key (sight .entry) ⌝ }
-{
-    let old = sight.entry;
-    entries::start_from(entries::swept_entry(old, config.lifetime, time), key)
-}
-
-// What a step on the entry at i leaves: the entry is in use for its key, and touched now.
-fn leave(sight: Sight, i: usize, time: u64, key: Key, step: Stepped) -> Change
-    ensures { λ r. ⌜ r ≡ changeTo sight i time key step ⌝ }
-{
-    let state = step.state;
-    let entry = Entry {
-        key: key,
-        used: true,
-        touched: time,
-        state: state,
-    };
-    let answer = step.answer;
-    Change {
-        freed: sight.freed,
-        clock: time,
-        at: i,
-        entry,
-        answer,
-    }
-}
+ghost use Rattle.block_handler.specs.Contract.{world, requestCall, responseCall, Meant, Placed, askedAt};
 
 // A request at its place: the step on entry i and on its piece, put back.
 fn request_at(
@@ -88,7 +41,7 @@ fn request_at(
         ≡ askedAt config (world t (now (upload .entry)) d) (sweep (config .lifetime) (asked .time) (t .entries)) i
         (opened k (sweep (config .lifetime) (asked .time) (t .entries))) asked (now (payload .entry))) × (r .at ≡ i) ⌝ }
 {
-    let e = opened_entry(config, sight, asked.time, key);
+    let e = table_change::opened_entry(config, sight, asked.time, key);
     let state = e.state;
     let home = i * config.upload;
     let away = i * config.response;
@@ -103,7 +56,7 @@ fn request_at(
         payload,
     );
     let stored = e.key;
-    leave(sight, i, asked.time, stored, step)
+    table_change::leave(sight, i, asked.time, stored, step)
 }
 
 // A response at its place.
@@ -126,7 +79,7 @@ fn response_at<'a>(
         (opened k (sweep (config .lifetime) (numbers .time) (t .entries)))
         (Rattle.block_state.specs.Message.response (replying numbers (now (head .entry)) (now (payload .entry))))) × (r .at ≡ i) ⌝ }
 {
-    let e = opened_entry(config, sight, numbers.time, key);
+    let e = table_change::opened_entry(config, sight, numbers.time, key);
     let state = e.state;
     let from = i * config.response;
     let end = from + config.response;
@@ -139,20 +92,7 @@ fn response_at<'a>(
         payload,
     );
     let stored = e.key;
-    leave(sight, i, numbers.time, stored, step)
-}
-
-// The table with a change made.
-pub fn changed_table(table: Table, lifetime: u64, time: u64, change: Change) -> Table
-    ensures { λ r. ⌜ r ≡ changed lifetime time table change ⌝ }
-{
-    let entries = table.entries;
-    let entry = change.entry;
-    if change.freed {
-        let row = block_table::sweep_row(entries, lifetime, time);
-        return block_table::put_entry(row, change.clock, change.at, entry);
-    }
-    block_table::put_entry(entries, change.clock, change.at, entry)
+    table_change::leave(sight, i, numbers.time, stored, step)
 }
 
 // A request: the upload memory is changed here, and what changes of this table, at this time and lifetime, is returned. The block options are given or not, and their bytes count only if they are.
@@ -182,7 +122,7 @@ pub fn request_change<'a>(
     let sight = places::look(config, table, numbers.time, named);
     let own = named.key;
     match judge::judge(config, sight, numbers.time, lengths) {
-        Verdict::Refused(n) => refused(sight, n),
+        Verdict::Refused(n) => table_change::refused(sight, n),
         Verdict::Place(i) => {
             let asked = request_step::read_options(config, numbers, block1, block2);
             request_at(config, sight, upload, own, i, asked, payload)
@@ -218,7 +158,7 @@ pub fn intercept_request<'a>(
         payload,
     );
     let answer = change.answer;
-    let next = changed_table(table, config.lifetime, numbers.time, change);
+    let next = table_change::changed_table(table, config.lifetime, numbers.time, change);
     Outcome {
         table: next,
         answer,
@@ -251,7 +191,7 @@ pub fn response_change<'a>(
     let sight = places::look(config, table, numbers.time, named);
     let own = named.key;
     match judge::judge(config, sight, numbers.time, lengths) {
-        Verdict::Refused(n) => refused(sight, n),
+        Verdict::Refused(n) => table_change::refused(sight, n),
         Verdict::Place(i) => response_at(config, sight, response, own, i, numbers, head, payload),
     }
 }
@@ -272,7 +212,7 @@ pub fn intercept_response<'a>(
 {
     let change = response_change(config, table, upload, response, numbers, key, head, payload);
     let answer = change.answer;
-    let next = changed_table(table, config.lifetime, numbers.time, change);
+    let next = table_change::changed_table(table, config.lifetime, numbers.time, change);
     Outcome {
         table: next,
         answer,

@@ -33,10 +33,10 @@ use denote.Triple.Clauses.{ensured, lasts}
 use Rattle.block_table.specs.declared.Table.{Table}
 use Rattle.block_table.proofs.Table as T
 use Rattle.block_table.proofs.Table.Laws as T′
-use Rattle.block_handler.specs.declared.Change.{Change}
-use Rattle.block_handler.specs.Contract.{changed}
-use Rattle.block_handler.proofs.Change as G
-use Rattle.block_handler.proofs.Change.Laws as G′
+use Rattle.table_change.specs.declared.Change.{Change}
+use Rattle.table_change.specs.Change.{changed}
+use Rattle.table_change.proofs.Change as G
+use Rattle.table_change.proofs.Change.Laws as G′
 use Rattle.config.specs.declared.Config.{Config}
 use Rattle.config.proofs.Config as C
 use Rattle.config.proofs.Config.Laws as C′

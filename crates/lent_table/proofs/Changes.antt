@@ -29,12 +29,12 @@ use denote.Triple.Clauses.{ensured, lasts}
 use Rattle.block_table.specs.declared.Table.{Table}
 use Rattle.block_table.proofs.Table as T
 use Rattle.block_table.proofs.Table.Laws as T′
-use Rattle.block_handler.specs.declared.Change.{Change}
-use Rattle.block_handler.specs.Contract.{changed}
-use Rattle.block_handler.proofs.Change as G
-use Rattle.block_handler.proofs.Change.Laws as G′
-use Rattle.block_handler.proofs.changed_table as c
-use Rattle.block_handler.proofs.changed_table.Symbol.{name as #changed}
+use Rattle.table_change.specs.declared.Change.{Change}
+use Rattle.table_change.specs.Change.{changed}
+use Rattle.table_change.proofs.Change as G
+use Rattle.table_change.proofs.Change.Laws as G′
+use Rattle.table_change.proofs.changed_table as c
+use Rattle.table_change.proofs.changed_table.Symbol.{name as #changed}
 use Rattle.lent_table.proofs.one_entry as d
 use Rattle.lent_table.proofs.one_entry.Symbol.{name as #one}
 

@@ -7,8 +7,8 @@ use borrow.Author.Tests.{not-true, ltb-true}
 use Rattle.pieces.proofs.Tests.{ands}
 use Rattle.block_table.specs.declared.Table.{Table}
 use Rattle.block_table.specs.Table.{tableWith}
-use Rattle.block_handler.specs.declared.Change.{Change}
-use Rattle.block_handler.specs.Contract.{changed}
+use Rattle.table_change.specs.declared.Change.{Change}
+use Rattle.table_change.specs.Change.{changed}
 
 module _ (g : Change) where
   pub one-entry : (r : Bool) → r ≡ (not (g .freed) && ltb (g .at) 16) → Holds r → (g .freed ≡ false) × (g .at < 16)

@@ -1,10 +1,10 @@
 // A call's change, made in a table that is lent by `&mut`.
-use block_handler::Change;
 use block_table::Table;
+use table_change::Change;
 ghost use mathlib.Core.Path.{_≡_};
 ghost use mathlib.Core.Bool.{not, _&&_};
 ghost use lib.Dec.{ltb};
-ghost use Rattle.block_handler.specs.Contract.{changed};
+ghost use Rattle.table_change.specs.Change.{changed};
 
 // Nothing expired: the clock and one entry are all that a call changes.
 fn one_entry(change: Change) -> bool
@@ -23,7 +23,7 @@ pub fn store_change(table: &mut Table, lifetime: u64, time: u64, change: Change)
         table.entries[at] = change.entry;
     } else {
         let old = *table;
-        let new = block_handler::changed_table(old, lifetime, time, change);
+        let new = table_change::changed_table(old, lifetime, time, change);
         *table = new;
     }
 }

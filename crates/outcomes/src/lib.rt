@@ -1,11 +1,12 @@
 // What the two calls change of a table by value, with the answer in numbers.
-use block_handler::Change;
 use block_state::RequestNumbers;
 use block_state::ResponseNumbers;
 use block_table::Table;
 use config::Config;
 use replies::Reply;
-ghost use Rattle.block_handler.specs.Contract.{world, requestCall, responseCall, changed};
+use table_change::Change;
+ghost use Rattle.block_handler.specs.Contract.{world, requestCall, responseCall};
+ghost use Rattle.table_change.specs.Change.{changed};
 ghost use Rattle.outcomes.specs.Contract.{Replies};
 
 // A call's answer in numbers, and what it changes of the table.

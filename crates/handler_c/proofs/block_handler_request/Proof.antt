@@ -36,7 +36,7 @@ use denote.Triple.Table.{entered, cited}
 use Rattle.block_state.specs.declared.RequestNumbers.{RequestNumbers}
 use Rattle.block_state.proofs.RequestNumbers as N
 use Rattle.block_state.proofs.RequestNumbers.Laws as N′
-use Rattle.block_handler.specs.Contract.{changed}
+use Rattle.table_change.specs.Change.{changed}
 use Rattle.block_table.specs.declared.Table.{Table}
 use Rattle.block_table.proofs.Table as T
 use Rattle.block_table.proofs.Table.Laws as T′

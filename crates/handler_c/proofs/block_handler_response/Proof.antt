@@ -36,7 +36,7 @@ use denote.Triple.Table.{entered, cited}
 use Rattle.block_state.specs.declared.ResponseNumbers.{ResponseNumbers}
 use Rattle.block_state.proofs.ResponseNumbers as N
 use Rattle.block_state.proofs.ResponseNumbers.Laws as N′
-use Rattle.block_handler.specs.Contract.{changed}
+use Rattle.table_change.specs.Change.{changed}
 use Rattle.block_table.specs.declared.Table.{Table}
 use Rattle.block_table.proofs.Table as T
 use Rattle.block_table.proofs.Table.Laws as T′

@@ -52,17 +52,17 @@ use Rattle.block_table.specs.declared.Table.{Table}
 use Rattle.block_table.specs.Table.{tableWith}
 use Rattle.block_table.proofs.Table as T
 use Rattle.block_table.proofs.Table.Laws as T′
-use Rattle.block_handler.specs.declared.Change.{Change}
-use Rattle.block_handler.specs.Contract.{changed}
-use Rattle.block_handler.proofs.Change as G
-use Rattle.block_handler.proofs.Change.Laws as G′
+use Rattle.table_change.specs.declared.Change.{Change}
+use Rattle.table_change.specs.Change.{changed}
+use Rattle.table_change.proofs.Change as G
+use Rattle.table_change.proofs.Change.Laws as G′
 use Rattle.lent_table.proofs.Cells.{Clock, Row, Back, apart, back, clock-out, clock-in}
 use Rattle.lent_table.proofs.Changes.{mach, news, oneEntry, Changed, One, changes, asks}
 use Rattle.lent_table.proofs.Forms.{one-entry, one-changed}
 use Rattle.lent_table.proofs.Frees.{Local, frees-set, frees-rooms}
-use Rattle.block_handler.proofs.changed_table.Symbol as changed-def
-use Rattle.block_handler.proofs.changed_table.Symbol.{name as #changed}
-use Rattle.block_handler.proofs.changed_table.Met as changed-thm
+use Rattle.table_change.proofs.changed_table.Symbol as changed-def
+use Rattle.table_change.proofs.changed_table.Symbol.{name as #changed}
+use Rattle.table_change.proofs.changed_table.Met as changed-thm
 use Rattle.lent_table.proofs.one_entry.Symbol as one-def
 use Rattle.lent_table.proofs.one_entry.Symbol.{name as #one}
 use Rattle.lent_table.proofs.one_entry.Met as one-thm
@@ -274,5 +274,5 @@ store-change-spec 𝓤 H 𝓜 𝓖 𝓡 =
     entered 𝓤 H (tripleOf 𝓤 H (𝓖 .A) f.signature (f.spec 𝓤 H (𝓖 .A) (𝓜 .mem) (𝓡 .run)))
     (tables 𝓤 H 𝓜 𝓡 code.env .C) (tables 𝓤 H 𝓜 𝓡 code.env .Λ) #self code.function (code.unfolded 𝓤 H 𝓜 𝓡)
     (meets 𝓤 H (𝓖 .A) (givenOf 𝓤 H 𝓜 𝓖) (𝓜 .mem) (𝓡 .run) (tablesOf 𝓤 H 𝓜 (tables 𝓤 H 𝓜 𝓡 code.env))
-    (cited 𝓤 H (Changed 𝓤 H (𝓖 .A) (𝓜 .mem) (𝓡 .run)) 𝓜 𝓡 code.env #changed changed-def.routine code.calls-block-handler·changed-table (changed-thm.met 𝓤 H 𝓜 𝓖 𝓡))
+    (cited 𝓤 H (Changed 𝓤 H (𝓖 .A) (𝓜 .mem) (𝓡 .run)) 𝓜 𝓡 code.env #changed changed-def.routine code.calls-table-change·changed-table (changed-thm.met 𝓤 H 𝓜 𝓖 𝓡))
     (cited 𝓤 H (One 𝓤 H (𝓖 .A) (𝓜 .mem) (𝓡 .run)) 𝓜 𝓡 code.env #one one-def.routine code.calls-lent-table·one-entry (one-thm.met 𝓤 H 𝓜 𝓖 𝓡)))

@@ -23,9 +23,10 @@ returns c =
     let judged = told .before .before in
     let look = judged .before .before in
     let sees = look .look .ensures _ (look .before .named .ensures) in (
-      refusal _ _ _ _ (c .refused .ensures .0 _ _ _ _ _ sees) (c .refused .ensures .1)
-          ∙ call-by _ _ _ _ _ _ (response-ok _) _ _ (judged .judge .ensures ∙ verdict-seen _ _ _ _ _ _ sees) (told .n .given .1),
-      rw (c .refused .ensures .2) (seen-below _ _ _ _ _ sees),
+      rw (c .refused .ensures)
+          (refusal _ _ _ _ _ _ sees
+          ∙ call-by _ _ _ _ _ _ (response-ok _) _ _ (judged .judge .ensures ∙ verdict-seen _ _ _ _ _ _ sees) (told .n .given .1)),
+      rw (c .refused .ensures) (seen-below _ _ _ _ _ sees),
     )
 
 returns-2 : tie.Need-returns-2

@@ -1,7 +1,7 @@
 use mathlib.Core.Path.{_∙_}
 use borrow.Author.Needs.{needs}
-use Rattle.block_handler.proofs.calls.changed_table.Statement.{statement}
-use Rattle.block_handler.proofs.calls.changed_table.Tie as tie
+use Rattle.table_change.proofs.changed_table.Statement.{statement}
+use Rattle.table_change.proofs.changed_table.Tie as tie
 
 returns : tie.Need-returns
 returns c = c .put-entry .ensures ∙ rw (c .before .before .if1 .taken, c .before .sweep-row .ensures .0)

@@ -1,7 +1,7 @@
 use mathlib.Core.Path.{_∙_}
 use borrow.Author.Needs.{needs}
-use Rattle.block_handler.proofs.calls.opened_entry.Statement.{statement}
-use Rattle.block_handler.proofs.calls.opened_entry.Tie as tie
+use Rattle.table_change.proofs.opened_entry.Statement.{statement}
+use Rattle.table_change.proofs.opened_entry.Tie as tie
 
 returns : tie.Need-returns
 returns c = c .start-from .ensures ∙ rw (c .before .swept-entry .ensures)
