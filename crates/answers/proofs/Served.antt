@@ -9,9 +9,9 @@ use Rattle.pieces.specs.Memory.{part}
 use Rattle.pieces.proofs.Memory.{drop-part, take-part, within-there}
 use Rattle.block_value.specs.Value.{blockSize, blockStart}
 use Rattle.block_value.specs.declared.BlockValue.{BlockValue}
-use Rattle.negotiation.specs.Chunk.{chunkOf}
-use Rattle.negotiation.specs.declared.Chunk.the-variants.{Bytes}
-use Rattle.negotiation.proofs.Laws.{chunk-bounds}
+use Rattle.chunks.specs.Chunk.{chunkOf}
+use Rattle.chunks.specs.declared.Chunk.the-variants.{Bytes}
+use Rattle.chunks.proofs.Laws.{chunk-bounds}
 use Rattle.answers.specs.Parts.{partOf}
 
 -- Where n bytes of payload are cached from index `at` of the response memory on, and the chunk for b is taken, the part that the answer names

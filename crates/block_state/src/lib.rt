@@ -2,7 +2,6 @@
 use block_value::BlockValue;
 use negotiation::MaybeBlock;
 
-pub mod limits;
 pub mod state;
 
 // What is assembled of an upload, cached_request_payload in the Rust: its length, and the exponent of the last block taken.

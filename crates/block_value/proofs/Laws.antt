@@ -1,19 +1,16 @@
--- The laws of the block value: the search for the exponent, and the cases of make, read and write. Assumes nothing.
-use mathlib.Core.Path.{_≡_, refl, sym, ap, _∙_}
+-- The laws of the block value: the search for the exponent, and the cases of make. Assumes nothing.
+use mathlib.Core.Path.{_≡_, sym, ap, _∙_}
 use mathlib.Core.Bool.{Bool}
-use mathlib.Core.List.{List, [], _∷_}
 use mathlib.Core.Logic.{⊎-elim}
-use Prim.Native.Nat.{ℕ, zero, suc, _+_, _*_, _/_, _%_, _^_, _≤_, _<_}
+use Prim.Native.Nat.{ℕ, zero, suc, _+_, _*_, _%_, _^_, _≤_, _<_}
 use native.Mathlib.Nat.{mul-comm, mul-le-mul, eq-or-lt-of-le, lt-of-not-le, lt-of-lt-of-le, le-of-suc-le-suc}
 use native.Mathlib.Omega.{arith}
 use lib.Dec.{lit<}
 use lib.Pow.{pow-add, pow-mono, pow-lt, shl-exact}
-use lib.ListN.{length, getD}
 use borrow.Author.Tests.{le-leb, lt-leb, lt-ltb, le-ltb, eq-eqb, ne-eqb}
 use Rattle.config.specs.declared.Config.{Config}
-use Rattle.block_value.specs.Value.{largestPower, exponentOf, made, sizeOf, unpacked, readOf, shortest}
+use Rattle.block_value.specs.Value.{largestPower, exponentOf, made, sizeOf}
 use Rattle.block_value.specs.declared.Made.the-variants as made-variants
-use Rattle.block_value.specs.declared.Reading.the-variants.{Value, Unreadable}
 
 -- ---- the largest power of two
 
@@ -85,44 +82,3 @@ module _ (c : Config) (num : ℕ) (more : Bool) (size : ℕ) where
       → made c num more size ≡ made-variants.Value (record { num = num; more = more; «size_exponent» = e })
   unfolding made
   made-well z e q h n = rw (q, ne-eqb size 0 z, le-ltb 7 (exponentOf size) (rw q at h), le-ltb 65535 num n)
-
--- ---- read, by the option's length
-
-pub read-0 : (c : Config) (l : List ℕ) → length l ≡ 0 → readOf c l ≡ Value (unpacked 0)
-unfolding readOf
-read-0 c [] h = refl
-read-0 c (x ∷ l) h = absurd (omega arith)
-
-pub read-1 : (c : Config) (l : List ℕ) → length l ≡ 1 → readOf c l ≡ Value (unpacked (getD l 0 0))
-unfolding readOf
-read-1 c [] h = absurd (omega arith)
-read-1 c (x ∷ []) h = refl
-read-1 c (x ∷ y ∷ l) h = absurd (omega arith)
-
-pub read-2 : (c : Config) (l : List ℕ) → length l ≡ 2 → readOf c l ≡ Value (unpacked (getD l 0 0 * 256 + getD l 1 0))
-unfolding readOf
-read-2 c [] h = absurd (omega arith)
-read-2 c (x ∷ []) h = absurd (omega arith)
-read-2 c (x ∷ y ∷ []) h = refl
-read-2 c (x ∷ y ∷ z ∷ l) h = absurd (omega arith)
-
-pub read-more : (c : Config) (l : List ℕ) → 2 < length l → readOf c l ≡ Unreadable
-unfolding readOf
-read-more c [] h = absurd (omega arith)
-read-more c (x ∷ []) h = absurd (omega arith)
-read-more c (x ∷ y ∷ []) h = absurd (omega arith)
-read-more c (x ∷ y ∷ z ∷ l) h = refl
-
--- ---- write, by the number's size
-
-pub short-0 : (v : ℕ) → v ≡ 0 → shortest v ≡ []
-unfolding shortest
-short-0 v h = rw (eq-eqb v 0 h)
-
-pub short-1 : (v : ℕ) → (v ≡ 0 → ⊥) → v < 256 → shortest v ≡ v ∷ []
-unfolding shortest
-short-1 v z h = rw (ne-eqb v 0 z, lt-ltb v 256 h)
-
-pub short-2 : (v : ℕ) → (v ≡ 0 → ⊥) → 256 ≤ v → shortest v ≡ v / 256 ∷ v % 256 ∷ []
-unfolding shortest
-short-2 v z h = rw (ne-eqb v 0 z, le-ltb v 256 h)

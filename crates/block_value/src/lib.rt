@@ -1,8 +1,8 @@
-// The block value of a Block1 or Block2 option: make, size, read, write.
+// The block value of a Block1 or Block2 option: make, size, start. Its bytes are in `block_option`.
 use config::Config;
 ghost use mathlib.Core.Path.{_≡_};
 ghost use Prim.Native.Nat.{_*_, _^_, _<_, _≤_};
-ghost use Rattle.block_value.specs.Value.{largestPower, made, blockSize, blockStart, unpacked, readOf, packed, written, inTwo};
+ghost use Rattle.block_value.specs.Value.{largestPower, made, blockSize, blockStart};
 
 pub struct BlockValue {
     pub num: u32,
@@ -15,19 +15,6 @@ pub struct BlockValue {
 pub enum Made {
     Value(BlockValue),
     Refused,
-}
-
-// What read answers.
-pub enum Reading {
-    Value(BlockValue),
-    Unreadable,
-}
-
-// An option's bytes: the first len of them; the others are 0.
-#[repr(C)]
-pub struct Written {
-    pub len: usize,
-    pub bytes: [u8; 2],
 }
 
 // The exponent of the largest power of two that does not exceed target.
@@ -44,7 +31,7 @@ fn largest_power_of_2_not_in_excess(target: usize) -> usize
     exponent
 }
 
-// Makes a block value. The configuration goes to make, read and write, whose limits are those of a mode; today the two modes have the same.
+// Makes a block value. The configuration goes to make, and to read and write, whose limits are those of a mode; today the two modes have the same.
 pub fn make(config: Config, num: usize, more: bool, size: usize) -> Made
     ensures { λ r. ⌜ r ≡ made config num more size ⌝ }
 {
@@ -91,65 +78,4 @@ pub fn start(block: BlockValue) -> usize
     ensures { λ r. ⌜ (r ≡ blockStart block) × (r < 2 ^ 43) ⌝ }
 {
     times(block.num, size(block))
-}
-
-fn unpack(scalar: u32) -> BlockValue
-    ensures { λ r. ⌜ r ≡ unpacked scalar ⌝ }
-{
-    BlockValue {
-        num: scalar / 16,
-        more: scalar / 8 % 2 == 1,
-        size_exponent: (scalar % 8) as u8,
-    }
-}
-
-pub fn read(config: Config, option: &[u8]) -> Reading
-    ensures { λ r. ⌜ r ≡ readOf config (now (option .entry)) ⌝ }
-{
-    let n = option.len();
-    if n == 0 {
-        return Reading::Value(unpack(0));
-    }
-    if n == 1 {
-        return Reading::Value(unpack(wide::u32_of_u8(option[0])));
-    }
-    if n == 2 {
-        return Reading::Value(unpack(
-            wide::u32_of_u8(option[0]) * 256 + wide::u32_of_u8(option[1]),
-        ));
-    }
-    Reading::Unreadable
-}
-
-fn pack(config: Config, block: BlockValue) -> u32
-    ensures { λ r. ⌜ (r ≡ packed config block) × (r < 65536) ⌝ }
-{
-    let num = block.num;
-    let exponent = wide::u32_of_u8(block.size_exponent % 8);
-    if block.more {
-        return num % 4096 * 16 + 8 + exponent;
-    }
-    num % 4096 * 16 + exponent
-}
-
-pub fn write(config: Config, block: BlockValue) -> Written
-    ensures { λ r. ⌜ r ≡ inTwo (written config block) ⌝ }
-{
-    let scalar = pack(config, block);
-    if scalar == 0 {
-        return Written {
-            len: 0,
-            bytes: [0, 0],
-        };
-    }
-    if scalar < 256 {
-        return Written {
-            len: 1,
-            bytes: [scalar as u8, 0],
-        };
-    }
-    Written {
-        len: 2,
-        bytes: [(scalar / 256) as u8, (scalar % 256) as u8],
-    }
 }

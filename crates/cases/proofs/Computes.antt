@@ -3,7 +3,7 @@ use Rattle.pieces.specs.Memory as memory
 use Rattle.splicing.specs.Splice as splice
 use Rattle.block_value.specs.Value as value
 use Rattle.negotiation.specs.Negotiation as negotiation
-use Rattle.negotiation.specs.Chunk as chunk
+use Rattle.chunks.specs.Chunk as chunk
 use Rattle.block_state.specs.State as state
 use Rattle.request_block2.specs.Block2 as block2
 use Rattle.request_block1.specs.Block1 as block1

@@ -5,19 +5,20 @@ use mathlib.Core.Path.{_≡_}
 use mathlib.Core.List.{List, [], _∷_, _++_}
 use mathlib.Core.Option.{none, some}
 use lib.ListN.{take, replicate}
-use Rattle.block_value.specs.Value.{made, sizeOf, blockSize, blockStart, readOf}
+use Rattle.block_value.specs.Value.{made, sizeOf, blockSize, blockStart}
+use Rattle.block_option.specs.Option.{readOf}
 use Rattle.block_value.specs.declared.BlockValue.{BlockValue}
 use Rattle.block_value.specs.declared.Made.{Made}
 use Rattle.block_value.specs.declared.Made.the-variants as made
-use Rattle.block_value.specs.declared.Reading.{Reading}
-use Rattle.block_value.specs.declared.Reading.the-variants as read
+use Rattle.block_option.specs.declared.Reading.{Reading}
+use Rattle.block_option.specs.declared.Reading.the-variants as read
 use Rattle.negotiation.specs.Negotiation.{negotiated, within}
-use Rattle.negotiation.specs.Chunk.{chunkOf}
+use Rattle.chunks.specs.Chunk.{chunkOf}
 use Rattle.negotiation.specs.declared.MaybeBlock.the-variants.{Absent, Given}
 use Rattle.negotiation.specs.declared.Negotiated.{Negotiated}
 use Rattle.negotiation.specs.declared.Negotiated.the-variants as reply
-use Rattle.negotiation.specs.declared.Chunk.{Chunk}
-use Rattle.negotiation.specs.declared.Chunk.the-variants as chunk
+use Rattle.chunks.specs.declared.Chunk.{Chunk}
+use Rattle.chunks.specs.declared.Chunk.the-variants as chunk
 use Rattle.splicing.specs.Splice.{spliceOf, spliced}
 use Rattle.splicing.specs.declared.Splice.{Splice}
 use Rattle.splicing.specs.declared.Splice.the-variants as splice

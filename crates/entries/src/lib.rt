@@ -30,7 +30,7 @@ fn used_ok(config: Config, clock: u64, e: Entry) -> bool
 {
     let key = e.key;
     let state = e.state;
-    keys::stored_ok(key) & (e.touched <= clock) & block_state::limits::state_ok(config, state)
+    keys::stored_ok(key) & (e.touched <= clock) & state_limits::state_ok(config, state)
 }
 
 fn free_ok(config: Config, clock: u64, e: Entry) -> bool
@@ -39,7 +39,7 @@ fn free_ok(config: Config, clock: u64, e: Entry) -> bool
 {
     let key = e.key;
     let state = e.state;
-    keys::is_no_key(key) & (e.touched == 0) & block_state::limits::is_nothing(state)
+    keys::is_no_key(key) & (e.touched == 0) & state_limits::is_nothing(state)
 }
 
 pub fn entry_ok(config: Config, clock: u64, e: Entry) -> bool

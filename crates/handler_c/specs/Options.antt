@@ -1,7 +1,7 @@
 -- An option's bytes as a block value.
 use mathlib.Core.Bool.{false}
 use Rattle.config.specs.declared.Config.{Config}
-use Rattle.block_value.specs.declared.Reading.{Reading}
+use Rattle.block_option.specs.declared.Reading.{Reading}
 use Rattle.negotiation.specs.Negotiation.{counted}
 use Rattle.block_state.specs.declared.Recorded.{Recorded}
 use Rattle.block_state.specs.State.{recording}

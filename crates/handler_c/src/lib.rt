@@ -5,14 +5,14 @@ use block_state::ResponseNumbers;
 use block_state::state;
 use block_table::Table;
 use block_value::BlockValue;
-use block_value::Reading;
-use block_value::Written;
+use block_option::Reading;
+use block_option::Written;
 use config::Config;
 use negotiation::MaybeBlock;
 use replies::Found;
 use replies::Reply;
 ghost use mathlib.Core.Path.{_≡_};
-ghost use Rattle.block_value.specs.Value.{readOf, written, inTwo};
+ghost use Rattle.block_option.specs.Option.{readOf, written, inTwo};
 ghost use Rattle.block_table.specs.Table.{freshTable};
 ghost use Rattle.block_handler.specs.Contract.{world, requestCall, responseCall};
 ghost use Rattle.replies.specs.Found.{foundIn, bodyIn, servedHeadIn, chunkIn, sentIn};
@@ -49,7 +49,7 @@ fn plain_config() -> Config
 pub extern "C" fn block_handler_read(option: &[u8]) -> Recorded
     ensures { λ r. ⌜ r ≡ blockRead (readOf plainConfig (now (option .entry))) ⌝ }
 {
-    let Reading::Value(block) = block_value::read(plain_config(), option) else {
+    let Reading::Value(block) = block_option::read(plain_config(), option) else {
         return state::recording_of(MaybeBlock::Absent);
     };
     state::recording_of(MaybeBlock::Given(block))
@@ -64,7 +64,7 @@ pub extern "C" fn block_handler_write(num: u32, more: bool, exponent: u8) -> Wri
         more,
         size_exponent: exponent,
     };
-    block_value::write(plain_config(), block)
+    block_option::write(plain_config(), block)
 }
 
 // The body that the application sees, of a payload and an upload memory of these lengths.

@@ -3,7 +3,6 @@ use block_state::Answer;
 use block_state::RequestNumbers;
 use block_state::ResponseNumbers;
 use block_state::Stepped;
-use block_state::limits;
 use config::Config;
 use entries::Entry;
 use replies::Reply;
@@ -24,7 +23,7 @@ fn usable(config: Config, size: usize, time: u64, e: Entry, n: usize) -> bool
     ensures { λ r. ⌜ r ≡ usable config size time e n ⌝ }
 {
     let state = e.state;
-    (n == size) & (n < 4294967296) & e.used & (e.touched <= time) & limits::state_ok(config, state)
+    (n == size) & (n < 4294967296) & e.used & (e.touched <= time) & state_limits::state_ok(config, state)
 }
 
 // Besides, no place in a memory overflows.

@@ -53,11 +53,11 @@ pub fn keep(text: &mut [u8], from: usize, end: usize) -> usize
     ensures { λ r. ⌜ now (text .exit) ≡ patch (now (text .entry)) 0 (part (now (text .entry)) from r) ⌝ }
 {
     if LONG < end - from {
-        pieces::move_left(text, from, 0, LONG);
+        moving::move_left(text, from, 0, LONG);
         return LONG;
     }
     let n = end - from;
-    pieces::move_left(text, from, 0, n);
+    moving::move_left(text, from, 0, n);
     n
 }
 

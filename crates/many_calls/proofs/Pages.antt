@@ -11,10 +11,10 @@ use Rattle.pieces.specs.Memory.{patch, part as bytesIn, pieceOf, putPiece}
 use Rattle.pieces.proofs.Memory.{piece-order, length-piece, length-patch, piece-put-same, piece-put-other, patch-self, take-part, drop-part}
 use Rattle.block_value.specs.declared.BlockValue.{BlockValue}
 use Rattle.negotiation.specs.Negotiation.{requestBlock}
-use Rattle.negotiation.specs.Chunk.{chunkOf, chunkBlock}
+use Rattle.chunks.specs.Chunk.{chunkOf, chunkBlock}
 use Rattle.negotiation.specs.declared.MaybeBlock.{MaybeBlock}
 use Rattle.negotiation.specs.declared.MaybeBlock.the-variants.{Given}
-use Rattle.negotiation.specs.declared.Chunk.the-variants as chunk
+use Rattle.chunks.specs.declared.Chunk.the-variants as chunk
 use Rattle.config.specs.declared.Config.{Config}
 use Rattle.block_state.specs.declared.Cached.{Cached}
 use Rattle.block_state.specs.declared.BlockState.{BlockState}

@@ -11,7 +11,7 @@ use Rattle.pieces.specs.Memory.{part}
 use Rattle.block_value.specs.Value.{blockSize, blockStart}
 use Rattle.block_value.specs.declared.BlockValue.{BlockValue}
 use Rattle.negotiation.specs.Negotiation.{requestBlock}
-use Rattle.negotiation.specs.Chunk.{chunkBlock}
+use Rattle.chunks.specs.Chunk.{chunkBlock}
 use Rattle.negotiation.specs.declared.MaybeBlock.the-variants.{Given}
 use Rattle.config.specs.declared.Config.{Config}
 use Rattle.block_state.specs.declared.Served as served

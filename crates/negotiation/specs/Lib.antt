@@ -1,2 +1,1 @@
 pub mod Negotiation
-pub mod Chunk

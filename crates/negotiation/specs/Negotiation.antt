@@ -5,11 +5,12 @@ use mathlib.Core.List.{List}
 use mathlib.Core.Option.{Option, none, some}
 use lib.Dec.{ltb, eqb}
 use Rattle.config.specs.declared.Config.{Config}
-use Rattle.block_value.specs.Value.{made, blockSize, blockStart, readOf}
+use Rattle.block_value.specs.Value.{made, blockSize, blockStart}
+use Rattle.block_option.specs.Option.{readOf}
 use Rattle.block_value.specs.declared.Made.{Made}
 use Rattle.block_value.specs.declared.Made.the-variants as made-variants
-use Rattle.block_value.specs.declared.Reading.{Reading}
-use Rattle.block_value.specs.declared.Reading.the-variants.{Value, Unreadable}
+use Rattle.block_option.specs.declared.Reading.{Reading}
+use Rattle.block_option.specs.declared.Reading.the-variants.{Value, Unreadable}
 use Rattle.negotiation.specs.declared.MaybeBlock.{MaybeBlock}
 use Rattle.negotiation.specs.declared.MaybeBlock.the-variants.{Absent, Given}
 use Rattle.negotiation.specs.declared.Negotiated.{Negotiated}

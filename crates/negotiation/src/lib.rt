@@ -1,13 +1,12 @@
-// The size negotiation, and the bounds of a chunk.
+// The size negotiation.
+use block_option::Reading;
 use block_value::BlockValue;
 use block_value::Made;
-use block_value::Reading;
 use config::Config;
 ghost use mathlib.Core.Path.{_≡_};
 ghost use Prim.Native.Nat.{_^_, _<_, _≤_, min};
 ghost use Rattle.block_value.specs.Value.{blockSize, blockStart};
 ghost use Rattle.negotiation.specs.Negotiation.{optionOf, requestBlock, replyOf, replyAt, negotiated};
-ghost use Rattle.negotiation.specs.Chunk.{chunkOf};
 
 // The most that a Block1 and a Block2 option add to a message.
 const BLOCK_OPTIONS_MAX_LENGTH: usize = 12;
@@ -24,18 +23,12 @@ pub enum Negotiated {
     Refused(u8),
 }
 
-// The bytes from..to of a payload, with the block value that they are sent under.
-pub enum Chunk {
-    Bytes(BlockValue, usize, usize),
-    Refused(u8),
-}
-
 // The block value of an option, where the message has one. One that cannot be read counts as absent.
 pub fn request_block(config: Config, given: bool, option: &[u8]) -> MaybeBlock
     ensures { λ r. ⌜ r ≡ requestBlock config (optionOf given (now (option .entry))) ⌝ }
 {
     if given {
-        let Reading::Value(block) = block_value::read(config, option) else {
+        let Reading::Value(block) = block_option::read(config, option) else {
             return MaybeBlock::Absent;
         };
         return MaybeBlock::Given(block);
@@ -106,24 +99,4 @@ pub fn negotiate_block_size_if_necessary(
         }
         MaybeBlock::Given(block) => reply_to(config, block, total_payload_size, max_block_size),
     }
-}
-
-// The chunk of a payload of `len` bytes that the block value asks for.
-pub fn chunk_of(block: BlockValue, len: usize) -> Chunk
-    ensures { λ r. ⌜ r ≡ chunkOf block len ⌝ }
-{
-    let size = block_value::size(block);
-    let from = block_value::start(block);
-    if len <= from {
-        return Chunk::Refused(8);
-    }
-    let asked = BlockValue {
-        num: block.num,
-        more: from + size < len,
-        size_exponent: block.size_exponent,
-    };
-    if len - from < size {
-        return Chunk::Bytes(asked, from, len);
-    }
-    Chunk::Bytes(asked, from, from + size)
 }

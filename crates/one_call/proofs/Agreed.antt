@@ -9,11 +9,11 @@ use lib.Dec.{leb}
 use Rattle.pieces.proofs.Tests.{on-test}
 use Rattle.block_value.specs.Value.{blockStart}
 use Rattle.block_value.specs.declared.BlockValue.{BlockValue}
-use Rattle.negotiation.specs.Chunk.{chunkOf, chunkBlock}
+use Rattle.chunks.specs.Chunk.{chunkOf, chunkBlock}
 use Rattle.negotiation.specs.declared.MaybeBlock.the-variants.{Absent, Given}
 use Rattle.negotiation.specs.declared.Negotiated.the-variants as agreed
-use Rattle.negotiation.specs.declared.Chunk.{Chunk}
-use Rattle.negotiation.specs.declared.Chunk.the-variants as chunk
+use Rattle.chunks.specs.declared.Chunk.{Chunk}
+use Rattle.chunks.specs.declared.Chunk.the-variants as chunk
 use Rattle.config.specs.declared.Config.{Config}
 use Rattle.block_state.specs.declared.BlockState.{BlockState}
 use Rattle.block_state.specs.declared.Answer.{Answer}

@@ -9,15 +9,16 @@ use lib.ListN.{length}
 use Rattle.splicing.specs.Splice.{spliceOf, pieceAfter}
 use Rattle.splicing.specs.declared.Splice.{Splice}
 use Rattle.splicing.specs.declared.Splice.the-variants as splice
-use Rattle.block_value.specs.Value.{made, readOf, blockSize, blockStart}
+use Rattle.block_value.specs.Value.{made, blockSize, blockStart}
+use Rattle.block_option.specs.Option.{readOf}
 use Rattle.block_value.specs.declared.BlockValue.{BlockValue}
 use Rattle.negotiation.specs.Negotiation.{requestBlock, negotiated, within, replyAt}
 use Rattle.negotiation.specs.declared.MaybeBlock.{MaybeBlock}
 use Rattle.negotiation.specs.declared.MaybeBlock.the-variants.{Absent, Given}
 use Rattle.negotiation.specs.declared.Negotiated.{Negotiated}
 use Rattle.negotiation.specs.declared.Negotiated.the-variants as agreed
-use Rattle.negotiation.specs.declared.Chunk.{Chunk}
-use Rattle.negotiation.specs.declared.Chunk.the-variants as chunk
+use Rattle.chunks.specs.declared.Chunk.{Chunk}
+use Rattle.chunks.specs.declared.Chunk.the-variants as chunk
 use Rattle.config.specs.declared.Config.{Config}
 use Rattle.block_state.specs.declared.BlockState.{BlockState}
 use Rattle.block_state.specs.declared.Answer.the-variants.{Continue, Handed, Plain, Refused}

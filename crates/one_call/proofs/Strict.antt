@@ -10,7 +10,8 @@ use lib.ListN.{length}
 use lib.Dec.{eqb}
 use borrow.Author.Tests.{eqb-true, eqb-false}
 use Rattle.pieces.proofs.Tests.{and-left, and-right, by-cases, refute}
-use Rattle.block_value.specs.Value.{blockSize, readOf}
+use Rattle.block_value.specs.Value.{blockSize}
+use Rattle.block_option.specs.Option.{readOf}
 use Rattle.block_value.specs.declared.BlockValue.{BlockValue}
 use Rattle.negotiation.specs.Negotiation.{requestBlock}
 use Rattle.negotiation.specs.declared.MaybeBlock.the-variants.{Given}

@@ -1,9 +1,9 @@
-// Lent memory: bytes copied, filled and moved in it.
+// Lent memory: bytes copied into it and filled.
 ghost use mathlib.Core.List.{_∷_, []};
 ghost use mathlib.Core.Path.{_≡_};
 ghost use Prim.Native.Nat.{_+_, _<_, _≤_};
 ghost use lib.ListN.{length, replicate};
-ghost use Rattle.pieces.specs.Memory.{patch, part, within, Put};
+ghost use Rattle.pieces.specs.Memory.{patch, within, Put};
 
 // Copies src into mem from index at on.
 pub fn copy_in(mem: &mut [u8], at: usize, src: &[u8])
@@ -43,47 +43,6 @@ pub fn zero_fill(mem: &mut [u8], at: usize, n: usize)
     while i < n {
         mem[at + i] = 0;
         i += 1;
-    }
-}
-
-// Moves the n bytes at from down to index to, the first one first.
-pub fn move_left(mem: &mut [u8], from: usize, to: usize, n: usize)
-    requires { ⌜ to ≤ from ⌝ }
-    requires { ⌜ from + n ≤ length (now mem) ⌝ }
-    ensures { λ _. ⌜ now (mem .exit) ≡ patch (now (mem .entry)) to (part (now (mem .entry)) from n) ⌝ }
-{
-    let mut i: usize = 0;
-    while i < n {
-        mem[to + i] = mem[from + i];
-        i += 1;
-    }
-}
-
-// Moves the n bytes at from up to index to, the last one first.
-fn move_right(mem: &mut [u8], from: usize, to: usize, n: usize)
-    requires { ⌜ from ≤ to ⌝ }
-    requires { ⌜ to + n ≤ length (now mem) ⌝ }
-    ensures { λ _. ⌜ now (mem .exit) ≡ patch (now (mem .entry)) to (part (now (mem .entry)) from n) ⌝ }
-{
-    let mut i: usize = n;
-    while 0 < i {
-        i -= 1;
-        mem[to + i] = mem[from + i];
-    }
-}
-
-// Moves the n bytes at from to index to, by the loop that reads each before it is overwritten.
-pub fn shift(mem: &mut [u8], from: usize, to: usize, n: usize)
-    requires { ⌜ from + n ≤ length (now mem) ⌝ }
-    requires { ⌜ to + n ≤ length (now mem) ⌝ }
-    ensures { λ _. ⌜ now (mem .exit) ≡ patch (now (mem .entry)) to (part (now (mem .entry)) from n) ⌝ }
-{
-    if to < from {
-        move_left(mem, from, to, n);
-        return;
-    }
-    if from < to {
-        move_right(mem, from, to, n);
     }
 }
 

@@ -9,9 +9,9 @@ use Rattle.block_state.specs.declared.Answer.{Answer}
 use Rattle.block_state.specs.declared.BlockState.{BlockState}
 use Rattle.config.specs.declared.Config.{Config}
 use Rattle.block_value.specs.declared.BlockValue.{BlockValue}
-use Rattle.negotiation.specs.Chunk.{chunkOf}
-use Rattle.negotiation.specs.declared.Chunk.the-variants as chunk
-use Rattle.negotiation.specs.declared.Chunk.{Chunk}
+use Rattle.chunks.specs.Chunk.{chunkOf}
+use Rattle.chunks.specs.declared.Chunk.the-variants as chunk
+use Rattle.chunks.specs.declared.Chunk.{Chunk}
 use Rattle.negotiation.specs.declared.MaybeBlock.the-variants.{Absent, Given}
 use Rattle.negotiation.specs.declared.MaybeBlock.{MaybeBlock}
 use Rattle.pieces.proofs.Tests.{on-test}

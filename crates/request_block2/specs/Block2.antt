@@ -2,11 +2,11 @@
 use Prim.Native.Nat.{ℕ, _+_}
 use mathlib.Core.Bool.{cond}
 use mathlib.Core.List.{List}
-use Rattle.negotiation.specs.Chunk.{chunkOf}
+use Rattle.chunks.specs.Chunk.{chunkOf}
 use Rattle.negotiation.specs.declared.MaybeBlock.{MaybeBlock}
 use Rattle.negotiation.specs.declared.MaybeBlock.the-variants.{Absent, Given}
-use Rattle.negotiation.specs.declared.Chunk.{Chunk}
-use Rattle.negotiation.specs.declared.Chunk.the-variants as chunk
+use Rattle.chunks.specs.declared.Chunk.{Chunk}
+use Rattle.chunks.specs.declared.Chunk.the-variants as chunk
 use Rattle.block_state.specs.declared.BlockState.{BlockState}
 use Rattle.block_state.specs.declared.Answer.{Answer}
 use Rattle.block_state.specs.declared.Answer.the-variants.{Served, Refused}

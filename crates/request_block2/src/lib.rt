@@ -6,12 +6,12 @@ use block_state::Served;
 use block_state::Stepped;
 use block_state::state;
 use block_value::BlockValue;
-use negotiation::Chunk;
+use chunks::Chunk;
 use negotiation::MaybeBlock;
 ghost use mathlib.Core.Path.{_≡_};
 ghost use mathlib.Core.List.{List};
 ghost use Prim.Native.Nat.{ℕ, _^_, _<_};
-ghost use Rattle.negotiation.specs.Chunk.{chunkOf};
+ghost use Rattle.chunks.specs.Chunk.{chunkOf};
 ghost use Rattle.block_state.specs.Step.{left};
 ghost use Rattle.request_block2.specs.Block2.{served, onward};
 
@@ -26,7 +26,7 @@ fn serve_cached_response(
     ensures { λ r. ⌜ ((u : List ℕ) → left (r .state) u (r .answer) ≡ served away state u block1 (chunkOf block2 (state .cached .payload))) ⌝ }
 {
     let cached = state.cached;
-    match negotiation::chunk_of(block2, wide::usize_of_u32(cached.payload)) {
+    match chunks::chunk_of(block2, wide::usize_of_u32(cached.payload)) {
         Chunk::Refused(n) => state::refused(state, n),
         Chunk::Bytes(reply, from, to) => {
             let next = state::with_cached(state, state::kept_while(reply.more, cached));

@@ -8,7 +8,7 @@ use block_state::Stepped;
 use block_state::state;
 use block_value::BlockValue;
 use config::Config;
-use negotiation::Chunk;
+use chunks::Chunk;
 use negotiation::Negotiated;
 ghost use mathlib.Core.Path.{_≡_};
 ghost use mathlib.Core.List.{_++_};
@@ -16,7 +16,7 @@ ghost use Prim.Native.Nat.{_+_, _^_, _<_, _≤_};
 ghost use mathlib.Core.Bool.{true};
 ghost use lib.ListN.{length};
 ghost use Rattle.pieces.specs.Memory.{patch};
-ghost use Rattle.negotiation.specs.Chunk.{chunkOf};
+ghost use Rattle.chunks.specs.Chunk.{chunkOf};
 ghost use Rattle.block_state.specs.State.{caching, withCached};
 ghost use Rattle.block_state.specs.Step.{left};
 ghost use Rattle.response_step.specs.Step.{chunked, stepResponse};
@@ -81,7 +81,7 @@ fn serve_response<'a>(
     ensures { λ r. ⌜ left (r .state) (now (piece .exit)) (r .answer)
         ≡ chunked config state (now (piece .entry)) (now (head .entry)) (now (payload .entry)) (chunkOf block (length (now (payload .entry)))) ⌝ }
 {
-    match negotiation::chunk_of(block, payload.len()) {
+    match chunks::chunk_of(block, payload.len()) {
         Chunk::Refused(n) => state::refused(state, n),
         Chunk::Bytes(reply, from, to) => {
             let part = Part { from, to };

@@ -11,8 +11,9 @@ use lib.Seq.{take-all, take-take, take-add, drop-at, length-take-le}
 use borrow.Author.Tests.{lt-ltb, le-ltb, ltb-true, ltb-false}
 use Rattle.splicing.specs.declared.Splice.the-variants.{Body, Refused}
 use Rattle.pieces.specs.Memory.{patch, part}
-use Rattle.splicing.specs.Splice.{spliced, splicedLength, spliceOf, pieceAfter}
+use Rattle.splicing.specs.Splice.{spliced, splicedLength, spliceOf, pieceAfter, roomIn}
 use Rattle.pieces.proofs.Memory.{patch-after, patch-front}
+use Rattle.pieces.proofs.Tests.{by-cases}
 
 -- a patch further on is one from the start, with the bytes before it as they are
 patch-start : (m : List ℕ) (k : ℕ) (b : List ℕ) → k ≤ length m → patch m k b ≡ patch m 0 (take k m ++ b)
@@ -43,7 +44,7 @@ module _ (m : List ℕ) (l a s : ℕ) (p : List ℕ) (f : l ≤ length m) where
       rw (z, append-nil (take a (take l m)), take-take a l m h)
 
   -- inside: the tail is moved, and the payload put before it
-  pub splice-inside : a + s < l → l - s + length p ≤ length m
+  splice-inside : a + s < l → l - s + length p ≤ length m
       → patch (patch m (a + length p) (part m (a + s) (l - (a + s)))) a p ≡ pieceAfter m l a s p
   unfolding pieceAfter spliced
   splice-inside h g =
@@ -52,7 +53,7 @@ module _ (m : List ℕ) (l a s : ℕ) (p : List ℕ) (f : l ≤ length m) where
       (patch-front m a p t (omega arith) ∙ patch-start m a (p ++ t) (omega arith))
 
   -- past the end: zeros, and then the payload
-  pub splice-past : l < a → a + length p ≤ length m → patch (patch m l (replicate (a - l) 0)) a p ≡ pieceAfter m l a s p
+  splice-past : l < a → a + length p ≤ length m → patch (patch m l (replicate (a - l) 0)) a p ≡ pieceAfter m l a s p
   unfolding pieceAfter spliced
   splice-past h g =
       let z : List ℕ = replicate (a - l) 0 in
@@ -62,9 +63,19 @@ module _ (m : List ℕ) (l a s : ℕ) (p : List ℕ) (f : l ≤ length m) where
       (ap (λ (i : ℕ). patch (patch m l z) i p) at ∙ patch-after m l z p (omega arith) ∙ patch-start m l (z ++ p) f)
 
   -- at the end, or over it: the payload alone
-  pub splice-over : a ≤ l → l ≤ a + s → patch m a p ≡ pieceAfter m l a s p
+  splice-over : a ≤ l → l ≤ a + s → patch m a p ≡ pieceAfter m l a s p
   unfolding pieceAfter spliced
   splice-over h k = rw (before h, beyond k, append-nil (take a m ++ p)) (patch-start m a p (omega arith))
+
+  -- with room made for it, the payload is put in its place
+  pub splice-put : splicedLength l a s (length p) ≤ length m → patch (roomIn m l a (a + s) (a + length p)) a p ≡ pieceAfter m l a s p
+  splice-put g =
+      by-cases (ltb (a + s) l)
+      (λ h. let inside = ltb-true (a + s) l h in rw h (splice-inside inside (omega arith)))
+      (λ h. let over = ltb-false (a + s) l h in
+      by-cases (ltb l a)
+      (λ k. let past = ltb-true l a k in rw (h, k) (splice-past past (omega arith)))
+      (λ k. rw (h, k) (splice-over (ltb-false l a k) over)))
 
 -- ---- the answer, by its cases
 
@@ -81,17 +92,19 @@ module _ (u l a s p : ℕ) where
   unfolding spliceOf
   taken h k = rw (le-ltb 16384 (a + s - l) h, le-ltb u (splicedLength l a s p) k)
 
-  -- a splice that is taken has the length that the document says, and fits
-  pub taken-is : (n : ℕ) → spliceOf u l a s p ≡ Body n → (n ≡ splicedLength l a s p) × (n ≤ u)
+  -- a splice that is taken has the length that the document says, fits, and does not jump too far
+  pub taken-is : (n : ℕ) → spliceOf u l a s p ≡ Body n → (n ≡ splicedLength l a s p) × (n ≤ u) × (a + s - l ≤ 16384)
   taken-is n e = go (ltb 16384 (a + s - l)) (ltb u (splicedLength l a s p)) refl refl
     where
-      go : (f g : Bool) → ltb 16384 (a + s - l) ≡ f → ltb u (splicedLength l a s p) ≡ g → (n ≡ splicedLength l a s p) × (n ≤ u)
+      go : (f g : Bool) → ltb 16384 (a + s - l) ≡ f → ltb u (splicedLength l a s p) ≡ g
+          → (n ≡ splicedLength l a s p) × (n ≤ u) × (a + s - l ≤ 16384)
       go true g h k = let no : _≡_ {A = ℕ} 0 1 = cc (too-far (ltb-true 16384 (a + s - l) h)) in absurd (omega arith)
       go false true h k = let no : _≡_ {A = ℕ} 0 1 = cc (too-small (ltb-false 16384 (a + s - l) h) (ltb-true u (splicedLength l a s p) k)) in absurd (omega arith)
       go false false h k =
+          let near = ltb-false 16384 (a + s - l) h in
           let fits = ltb-false u (splicedLength l a s p) k in
-          let q : n ≡ splicedLength l a s p = cc (taken (ltb-false 16384 (a + s - l) h) fits) in
-          (q, omega arith)
+          let q : n ≡ splicedLength l a s p = cc (taken near fits) in
+          (q, omega arith, near)
 
 -- ---- the new body
 

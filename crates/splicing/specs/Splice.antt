@@ -4,7 +4,7 @@ use mathlib.Core.Bool.{cond}
 use mathlib.Core.List.{List, _++_}
 use lib.Dec.{ltb}
 use lib.ListN.{length, take, drop, replicate}
-use Rattle.pieces.specs.Memory.{patch}
+use Rattle.pieces.specs.Memory.{patch, part}
 use Rattle.splicing.specs.declared.Splice.{Splice}
 use Rattle.splicing.specs.declared.Splice.the-variants.{Body, Refused}
 
@@ -31,3 +31,9 @@ pieceAfter piece l a s payload = patch piece 0 (spliced (take l piece) a s paylo
 abbrev pub leftBy : Splice → List ℕ → ℕ → ℕ → ℕ → List ℕ → List ℕ
 leftBy (Refused n) piece l a s payload = piece
 leftBy (Body n) piece l a s payload = pieceAfter piece l a s payload
+
+-- ---- How the code makes a splice. No contract of `extending_splice` cites this.
+
+-- The piece m with room for a payload from a up to t in place of the bytes up to e: the tail of the l bytes assembled stands at t, or zeros stand before a.
+abbrev pub roomIn : List ℕ → ℕ → ℕ → ℕ → ℕ → List ℕ
+roomIn m l a e t = cond (ltb e l) (patch m t (part m e (l - e))) (cond (ltb l a) (patch m l (replicate (a - l) 0)) m)

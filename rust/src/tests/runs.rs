@@ -46,21 +46,30 @@ fn large_pieces() {
     println!("large pieces: {:?}", pair.seen);
 }
 
-/// Ten million calls for sixteen keys, half of them in each mode, each half on one handler.
+/// Five million calls for sixteen keys, on one handler.
+fn soak(strict: bool) {
+    let config = BlockHandlerConfig {
+        max_total_message_size: 128,
+        cache_expiry_duration: Duration::from_secs(5),
+        strict,
+        max_upload: 512,
+        max_response: 256,
+    };
+    let mut pair = Pair::new(config);
+    let start = Instant::now();
+    pair.run(&mut Calls::new(3, config, 16), 5_000_000);
+    println!("soak, strict {strict}: 5,000,000 calls, 0 differences, {:.1} s: {:?}", start.elapsed().as_secs_f64(), pair.seen);
+}
+
+// A test of its own for each mode, so that the two run side by side.
 #[test]
-#[ignore = "half a minute in a release build: cargo test --release -- --ignored --nocapture soak"]
-fn soak() {
-    for strict in [false, true] {
-        let config = BlockHandlerConfig {
-            max_total_message_size: 128,
-            cache_expiry_duration: Duration::from_secs(5),
-            strict,
-            max_upload: 512,
-            max_response: 256,
-        };
-        let mut pair = Pair::new(config);
-        let start = Instant::now();
-        pair.run(&mut Calls::new(3, config, 16), 5_000_000);
-        println!("soak, strict {strict}: 5,000,000 calls, 0 differences, {:.1} s: {:?}", start.elapsed().as_secs_f64(), pair.seen);
-    }
+#[ignore = "ten seconds in a release build: cargo test --release -- --ignored --nocapture soak"]
+fn soak_plain() {
+    soak(false);
+}
+
+#[test]
+#[ignore = "ten seconds in a release build: cargo test --release -- --ignored --nocapture soak"]
+fn soak_strict() {
+    soak(true);
 }

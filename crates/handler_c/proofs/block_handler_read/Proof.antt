@@ -1,6 +1,6 @@
 use mathlib.Core.Path.{sym, ap, _∙_}
 use Rattle.config.specs.declared.Config.{Config}
-use Rattle.block_value.specs.Value.{readOf}
+use Rattle.block_option.specs.Option.{readOf}
 use Rattle.handler_c.specs.Options.{blockRead}
 use borrow.Author.Needs.{needs}
 use Rattle.handler_c.proofs.block_handler_read.Statement.{statement}

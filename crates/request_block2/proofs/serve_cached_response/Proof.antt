@@ -1,8 +1,8 @@
 use mathlib.Core.Path.{_≡_, sym, ap, _∙_}
 use Prim.Native.Nat.{_≤_}
 use native.Mathlib.Omega.{arith}
-use Rattle.negotiation.specs.Chunk.{chunkOf}
-use Rattle.negotiation.proofs.Laws.{chunk-within}
+use Rattle.chunks.specs.Chunk.{chunkOf}
+use Rattle.chunks.proofs.Laws.{chunk-within}
 use Rattle.block_state.proofs.Steps.{returned}
 use Rattle.request_block2.proofs.Serving.{served-refused, served-bytes}
 use borrow.Author.Needs.{needs}

@@ -1,5 +1,5 @@
 use mathlib.Core.Path.{sym, ap, _∙_}
-use Rattle.negotiation.specs.declared.Chunk.{Chunk}
+use Rattle.chunks.specs.declared.Chunk.{Chunk}
 use Rattle.response_step.specs.Step.{chunked}
 use Rattle.block_state.proofs.Steps.{returned}
 use Rattle.response_step.proofs.Steps.{chunked-refused, chunked-whole}
