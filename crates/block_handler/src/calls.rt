@@ -118,7 +118,7 @@ pub fn request_change<'a>(
         payload: payload.len(),
         head: 0,
     };
-    let named = keys::named(key);
+    let named = named_keys::named(key);
     let sight = places::look(config, table, numbers.time, named);
     let own = named.key;
     match judge::judge(config, sight, numbers.time, lengths) {
@@ -187,7 +187,7 @@ pub fn response_change<'a>(
         payload: payload.len(),
         head: head.len(),
     };
-    let named = keys::named(key);
+    let named = named_keys::named(key);
     let sight = places::look(config, table, numbers.time, named);
     let own = named.key;
     match judge::judge(config, sight, numbers.time, lengths) {

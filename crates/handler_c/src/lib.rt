@@ -1,12 +1,12 @@
 // The handler for programs in C and Rust: its calls on a table and memories that the caller owns, with answers as numbers.
+use block_option::Reading;
+use block_option::Written;
 use block_state::Recorded;
 use block_state::RequestNumbers;
 use block_state::ResponseNumbers;
 use block_state::state;
 use block_table::Table;
 use block_value::BlockValue;
-use block_option::Reading;
-use block_option::Written;
 use config::Config;
 use negotiation::MaybeBlock;
 use replies::Found;

@@ -1,11 +1,12 @@
-// A key, as a call names it and as an entry stores it: its limits, its bytes, its tag, and when two are the same. But for the text of the state, only this crate looks inside one.
+// A key, as a call names it and as an entry stores it: its limits, its bytes, its tag, and when two are the same. But for `named_keys`, which makes one, and the
+// text of the state, only this crate looks inside one.
 ghost use mathlib.Core.Path.{_≡_};
 ghost use mathlib.Core.Bool.{true};
 ghost use Prim.Native.Nat.{_≤_};
 ghost use lib.ListN.{length, take};
 ghost use lib.Dec.{eqb};
 ghost use Rattle.keys.specs.Lists.{all};
-ghost use Rattle.keys.specs.Keys.{same, keyOk, keyOf, storedOk, stored, noKey, isNoKey, keySized, tagOf, namedOf};
+ghost use Rattle.keys.specs.Keys.{same, keyOf, storedOk, noKey, isNoKey, keySized, tagOf};
 
 #[repr(C)]
 pub struct Key {
@@ -21,12 +22,6 @@ pub struct NamedKey {
 }
 
 // ---- Limits
-
-fn key_ok(key: &[u8]) -> bool
-    ensures { λ r. ⌜ r ≡ keyOk (now (key .entry)) ⌝ }
-{
-    (1 <= key.len()) & (key.len() <= 64)
-}
 
 pub fn stored_ok(key: Key) -> bool
     ensures { λ r. ⌜ r ≡ storedOk key ⌝ }
@@ -114,58 +109,4 @@ pub fn tag(key: Key) -> u32
 {
     let bytes = key.bytes;
     digest::fold(digest::digest(bytes, cut(bytes, key.len)))
-}
-
-// ---- A key as a call names it
-
-fn padded(key: &[u8]) -> [u8; 64]
-    requires { ⌜ length (now key) ≤ 64 ⌝ }
-    ensures { λ r. ⌜ r ≡ stored (now (key .entry)) .bytes ⌝ }
-{
-    let mut bytes = [0u8; 64];
-    let mut i = 0;
-    while i < key.len() {
-        bytes[i] = key[i];
-        i += 1;
-    }
-    bytes
-}
-
-fn small(x: usize) -> u8
-    requires { ⌜ x ≤ 64 ⌝ }
-    ensures { λ r. ⌜ r ≡ x ⌝ }
-{
-    x as u8
-}
-
-fn stored_key(key: &[u8]) -> Key
-    requires { ⌜ length (now key) ≤ 64 ⌝ }
-    ensures { λ r. ⌜ r ≡ stored (now (key .entry)) ⌝ }
-{
-    let bytes = padded(key);
-    Key {
-        bytes: bytes,
-        len: small(key.len()),
-    }
-}
-
-// A call reads the bytes of its key here, and nowhere else.
-pub fn named(key: &[u8]) -> NamedKey
-    ensures { λ r. ⌜ r ≡ namedOf (now (key .entry)) ⌝ }
-{
-    if key_ok(key) {
-        let k = stored_key(key);
-        let own = tag(k);
-        return NamedKey {
-            ok: true,
-            tag: own,
-            key: k,
-        };
-    }
-    let none = no_key();
-    NamedKey {
-        ok: false,
-        tag: 0,
-        key: none,
-    }
 }

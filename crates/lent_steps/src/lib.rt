@@ -23,7 +23,11 @@ fn usable(config: Config, size: usize, time: u64, e: Entry, n: usize) -> bool
     ensures { λ r. ⌜ r ≡ usable config size time e n ⌝ }
 {
     let state = e.state;
-    (n == size) & (n < 4294967296) & e.used & (e.touched <= time) & state_limits::state_ok(config, state)
+    (n == size)
+        & (n < 4294967296)
+        & e.used
+        & (e.touched <= time)
+        & state_limits::state_ok(config, state)
 }
 
 // Besides, no place in a memory overflows.

@@ -4,11 +4,11 @@ use Prim.Native.Nat.{_-_, _≤_}
 use native.Mathlib.Omega.{arith}
 use lib.ListN.{length, drop, take, replicate}
 use lib.Seq.{take-length}
 use Rattle.keys.specs.Keys.{stored}
 use Rattle.keys.proofs.Turns.{pad-go, drop-zeros}
 use borrow.Author.Needs.{needs}
-use Rattle.keys.proofs.padded.Statement.{statement}
-use Rattle.keys.proofs.padded.Tie as tie
+use Rattle.named_keys.proofs.padded.Statement.{statement}
+use Rattle.named_keys.proofs.padded.Tie as tie
 
 abbrev Inv-loop : tie.InvT-loop
 Inv-loop key bytes₀ i₀ bytes i = (length key ≤ 64) × ((i ≤ length key) × (bytes ≡ take i key ++ drop i (replicate 64 0)))

@@ -1,7 +1,7 @@
 use Rattle.keys.specs.Keys.{keyOk}
 use borrow.Author.Needs.{needs}
-use Rattle.keys.proofs.key_ok.Statement.{statement}
-use Rattle.keys.proofs.key_ok.Tie as tie
+use Rattle.named_keys.proofs.key_ok.Statement.{statement}
+use Rattle.named_keys.proofs.key_ok.Tie as tie
 
 returns : tie.Need-returns
 unfolding keyOk

@@ -1,7 +1,7 @@
 use Rattle.keys.specs.Keys.{stored}
 use borrow.Author.Needs.{needs}
-use Rattle.keys.proofs.stored_key.Statement.{statement}
-use Rattle.keys.proofs.stored_key.Tie as tie
+use Rattle.named_keys.proofs.stored_key.Statement.{statement}
+use Rattle.named_keys.proofs.stored_key.Tie as tie
 
 returns : tie.Need-returns
 unfolding stored

@@ -1,10 +1,10 @@
 use mathlib.Core.Path.{sym, ap, _∙_}
 use Rattle.keys.specs.declared.Key.{Key}
 use Rattle.keys.specs.Keys.{keyOf, tagOf, namedOf}
 use Rattle.keys.proofs.Keys.{key-short, key-stored}
 use borrow.Author.Needs.{needs}
-use Rattle.keys.proofs.named.Statement.{statement}
-use Rattle.keys.proofs.named.Tie as tie
+use Rattle.named_keys.proofs.named.Statement.{statement}
+use Rattle.named_keys.proofs.named.Tie as tie
 
 short : tie.Need-stored-key-requires
 short c κs = key-short _ (sym (c .before .key-ok .ensures) ∙ c .if1 .taken)
