@@ -1,16 +1,80 @@
 // The block handler's calls: on a table by value and two lent memories, for any bytes and numbers.
 use block_state::Answer;
+use block_state::RequestNumbers;
+use block_state::ResponseNumbers;
 use block_table::Table;
-
-mod calls;
-
-pub use calls::intercept_request;
-pub use calls::intercept_response;
-pub use calls::request_change;
-pub use calls::response_change;
+use config::Config;
+ghost use Rattle.call.specs.Contract.{world, requestCall, responseCall, Meant};
 
 // What a call leaves of the table, and what it answers.
 pub struct Outcome {
     pub table: Table,
     pub answer: Answer,
+}
+
+// A request, before the application sees it.
+pub fn intercept_request<'a>(
+    config: Config,
+    table: Table,
+    upload: &mut [u8],
+    response: &'a [u8],
+    numbers: RequestNumbers,
+    key: &'a [u8],
+    block1: &'a [u8],
+    block2: &'a [u8],
+    payload: &'a [u8],
+) -> Outcome
+    ensures { λ r. ⌜ Meant config (world table (now (upload .entry)) (now (response .entry)))
+        (requestCall numbers (now (key .entry)) (now (block1 .entry)) (now (block2 .entry)) (now (payload .entry)))
+        (world (r .table) (now (upload .exit)) (now (response .entry))) (r .answer) ⌝ }
+{
+    let change = request_call::request_change(
+        config,
+        table,
+        upload,
+        response,
+        numbers,
+        key,
+        block1,
+        block2,
+        payload,
+    );
+    let answer = change.answer;
+    let next = table_change::changed_table(table, config.lifetime, numbers.time, change);
+    Outcome {
+        table: next,
+        answer,
+    }
+}
+
+// A response, before it is sent.
+pub fn intercept_response<'a>(
+    config: Config,
+    table: Table,
+    upload: &'a [u8],
+    response: &mut [u8],
+    numbers: ResponseNumbers,
+    key: &'a [u8],
+    head: &'a [u8],
+    payload: &'a [u8],
+) -> Outcome
+    ensures { λ r. ⌜ Meant config (world table (now (upload .entry)) (now (response .entry)))
+        (responseCall numbers (now (key .entry)) (now (head .entry)) (now (payload .entry))) (world (r .table) (now (upload .entry)) (now (response .exit))) (r .answer) ⌝ }
+{
+    let change = response_call::response_change(
+        config,
+        table,
+        upload,
+        response,
+        numbers,
+        key,
+        head,
+        payload,
+    );
+    let answer = change.answer;
+    let next = table_change::changed_table(table, config.lifetime, numbers.time, change);
+    Outcome {
+        table: next,
+        answer,
+    }
 }

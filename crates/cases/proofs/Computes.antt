@@ -14,7 +14,7 @@ use Rattle.entries.specs.Entries as entries
 use Rattle.block_table.specs.Table as table
 use Rattle.places.specs.Places as places
 use Rattle.judge.specs.Limits as judge
-use Rattle.block_handler.specs.Call as h
+use Rattle.call.specs.Call as h
 
 unfoldable pub values : Unit {0}
 unfolding value.largestPower value.made value.sizeOf value.readOf negotiation.requestBlock negotiation.negotiated negotiation.within negotiation.replyAt chunk.chunkOf

@@ -18,7 +18,7 @@ use Rattle.block_state.specs.Message.{request, WhatBytes}
 use Rattle.apart.specs.Answers.{said, served}
 use Rattle.keys.specs.Keys as keys
 use Rattle.answers.specs.Parts.{servedChunk}
-use Rattle.block_handler.specs.Call.{Call, call, withinLimits}
+use Rattle.call.specs.Call.{Call, call, withinLimits}
 use Rattle.one_call.specs.Strict.{BadlyFormed, PassesFive}
 use Rattle.demands.specs.Demand3.{Sent, callOn, block, All, AllBytes, Blocks, Granted}
 use Rattle.demands.specs.Clocks.{requestsOn, GrantedOwn}

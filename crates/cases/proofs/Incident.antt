@@ -26,7 +26,7 @@ use Rattle.block_state.specs.Step.{Left, left, bytesFrom}
 use Rattle.request_block1.specs.Block1.{lengthMet}
 use Rattle.request_step.specs.Step.{stepRequest}
 use Rattle.pieces.proofs.Tests.{clash-of}
-use Rattle.block_handler.specs.Call.{call}
+use Rattle.call.specs.Call.{call}
 use Rattle.one_call.proofs.Checks.{meets-all}
 use Rattle.one_call.proofs.Step.{step-more, step-last}
 use Rattle.demands.specs.Demand3.{block, Fills, Demand3}

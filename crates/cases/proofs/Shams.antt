@@ -24,7 +24,7 @@ use Rattle.entries.specs.declared.Entry.{Entry}
 use Rattle.entries.specs.Entries.{free, live}
 use Rattle.answers.specs.Parts.{partOf, bodyOf}
 use Rattle.block_table.specs.Table.{freshTable}
-use Rattle.block_handler.specs.Call.{World}
+use Rattle.call.specs.Call.{World}
 use Rattle.one_call.specs.Handler.{Handler, entryAt}
 use Rattle.demands.specs.Demand3.{Sent, HasFree, HasLive, NothingInPlain, Blocks, Granted, Demand3, callOn, block}
 use Rattle.demands.proofs.Runs.{fresh-entry}

@@ -20,7 +20,7 @@ use Rattle.request_step.specs.Step.{stepRequest}
 use Rattle.keys.specs.Keys.{Name, stored}
 use Rattle.entries.specs.Entries.{inUse}
 use Rattle.block_table.specs.Table.{freshTable, tableWith}
-use Rattle.block_handler.specs.Call.{World, Call, call}
+use Rattle.call.specs.Call.{World, Call, call}
 use Rattle.one_call.specs.Handler.{Handler}
 use Rattle.demands.specs.Demand3.{run, callsOn, seenOn, Sent, callOn, block, joined, Rising, HasLive, Push, HandsOn}
 use Rattle.cases.specs.Shams.{sent}

@@ -21,7 +21,7 @@ use Rattle.block_state.specs.Step.{bytesFrom}
 use Rattle.keys.specs.Keys.{Name, stored}
 use Rattle.entries.specs.Entries.{inUse}
 use Rattle.block_table.specs.Table.{freshTable, tableWith}
-use Rattle.block_handler.specs.Call.{World, Call, done, call, withinLimits}
+use Rattle.call.specs.Call.{World, Call, done, call, withinLimits}
 use Rattle.one_call.specs.Handler.{Handler}
 use Rattle.demands.specs.Demand3.{Seen, run, Sent, callOn, block, HasLive, Granted, Demand3}
 

@@ -1,7 +1,7 @@
 -- Demand 3 holds of whatever satisfies the contracts of the compiled calls. Assumes nothing.
 use mathlib.Core.Path.{_≡_, refl, sym, ap, subst}
 use mathlib.Core.List.{List, [], _∷_}
-use Rattle.block_handler.specs.Call.{call}
+use Rattle.call.specs.Call.{call}
 use Rattle.one_call.specs.Handler.{Handler}
 use Rattle.demands.specs.Demand3.{Seen, seen, callOn, Demand3}
 use Rattle.demands.specs.Compiled.{RequestEnsures, ResponseEnsures, BodyEnsures, RequestAsks, ResponseAsks, BodyAsks, KeepsContract, OfAllThatKeep, RunsAreCalls, Demand3OfRuns}

@@ -7,8 +7,8 @@ use lib.ListN.{length}
 use Rattle.config.specs.declared.Config.{Config}
 use Rattle.keys.specs.Keys.{Name, same}
 use Rattle.keys.proofs.Keys.{same-refl}
-use Rattle.block_handler.specs.Call.{World, Call, call}
-use Rattle.block_handler.proofs.Frame.{world-fits, key-within}
+use Rattle.call.specs.Call.{World, Call, call}
+use Rattle.call.proofs.Frame.{world-fits, key-within}
 use Rattle.demands.specs.Demand3.{after, Sent, callOn, joined, All, HandsOn, Demand3, lastOf}
 use Rattle.demands.specs.Clocks.{asks, runOn, GrantedOwn, Demand3Own, Stronger}
 use Rattle.demands.proofs.Runs.{asks-own, only-asks, own-requests, own-seen, seen-cut, none-seen, rising-cut, rising-own}

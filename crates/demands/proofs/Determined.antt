@@ -15,8 +15,8 @@ use Rattle.block_state.specs.declared.BlockState.{BlockState}
 use Rattle.block_state.specs.declared.Answer.{Answer}
 use Rattle.block_state.specs.Step.{Left, left}
 use Rattle.block_table.specs.declared.Table.{Table}
-use Rattle.block_handler.specs.Call.{World, Call, Done, done}
-use Rattle.block_handler.specs.Contract.{world, Meant}
+use Rattle.call.specs.Call.{World, Call, Done, done}
+use Rattle.call.specs.Contract.{world, Meant}
 
 pub one-result : {A : Type 0} {x r s : A} → r ≡ x → s ≡ x → r ≡ s
 one-result e f = e ∙ sym f

@@ -20,8 +20,8 @@ use Rattle.block_table.proofs.TableFits.{row, row-length, row-unique, row-live}
 use Rattle.places.specs.Places.{place, opened}
 use Rattle.places.proofs.Places.{opened-own, opened-key, place-of}
 use Rattle.judge.specs.Limits.{configOk}
-use Rattle.block_handler.specs.Call.{World, Call, Done, callAt, rowOf, call}
-use Rattle.block_handler.proofs.Frame.{WorldFits, call-fits, other-keeps}
+use Rattle.call.specs.Call.{World, Call, Done, callAt, rowOf, call}
+use Rattle.call.proofs.Frame.{WorldFits, call-fits, other-keeps}
 use Rattle.one_call.specs.Handler.{entryAt}
 use Rattle.one_call.proofs.Outcomes.{placeOf, openedOf, storing-assembled, early-or-placed}
 use Rattle.demands.specs.Demand3.{after, All, AllBytes}

@@ -38,8 +38,8 @@ use Rattle.places.specs.Places.{place, opened}
 use Rattle.places.proofs.Places.{opened-own, opened-new, opened-key, place-holds, place-of}
 use Rattle.judge.specs.Limits.{configOk}
 use Rattle.answers.specs.Parts.{partOf}
-use Rattle.block_handler.specs.Call.{World, Call, whatOk, call}
-use Rattle.block_handler.proofs.Frame.{WorldFits, Took, request-took, call-fits}
+use Rattle.call.specs.Call.{World, Call, whatOk, call}
+use Rattle.call.proofs.Frame.{WorldFits, Took, request-took, call-fits}
 use Rattle.one_call.specs.Handler.{entryAt}
 use Rattle.one_call.proofs.Checks.{NextAt, next-same}
 use Rattle.demands.specs.Demand3.{Seen, seen, after, Sent, callOn, block, Each, Fills, joined, Prompt, AllBytes, HasLive, HasFree, NothingInPlain, Blocks, HandsOn, lastOf}

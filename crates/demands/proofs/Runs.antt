@@ -15,8 +15,8 @@ use Rattle.entries.specs.Entries.{free}
 use Rattle.block_table.specs.Table.{freshTable}
 use Rattle.block_table.proofs.TableFits as fits
 use Rattle.judge.specs.Limits.{memoriesOk}
-use Rattle.block_handler.specs.Call.{World, Call, callAt, rowOf, call}
-use Rattle.block_handler.proofs.Frame.{WorldFits, call-fits, call-cases}
+use Rattle.call.specs.Call.{World, Call, callAt, rowOf, call}
+use Rattle.call.proofs.Frame.{WorldFits, call-fits, call-cases}
 use Rattle.one_call.specs.Handler.{Handler, entryAt}
 use Rattle.one_call.proofs.Outcomes.{placeOf, openedOf}
 use Rattle.demands.specs.Demand3.{run, after, callsOn, seenOn, Sent, callOn, All, AllBytes, Rising, Fresh}

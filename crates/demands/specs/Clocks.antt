@@ -10,7 +10,7 @@ use mathlib.Core.List.{List, [], _∷_, map}
 use Rattle.config.specs.declared.Config.{Config}
 use Rattle.block_state.specs.Message.{What, request, response}
 use Rattle.keys.specs.Keys.{Name, same}
-use Rattle.block_handler.specs.Call.{World, Call}
+use Rattle.call.specs.Call.{World, Call}
 use Rattle.one_call.specs.Handler.{Handler}
 use Rattle.demands.specs.Demand3.{Seen, seen, Sent, callOn, joined, HasLive, HasFree, NothingInPlain, Push, HandsOn, Demand3}
 

@@ -14,8 +14,8 @@ use Rattle.config.specs.declared.Config.{Config}
 use Rattle.keys.specs.Keys.{Name}
 use Rattle.answers.specs.Parts.{bodyOf}
 use Rattle.answers.proofs.body
-use Rattle.block_handler.specs.Call.{World, Call, Done, call}
-use Rattle.block_handler.specs.Contract.{world, requestCall, responseCall, Meant}
+use Rattle.call.specs.Call.{World, Call, Done, call}
+use Rattle.call.specs.Contract.{world, requestCall, responseCall, Meant}
 use Rattle.block_handler.proofs.intercept_request
 use Rattle.block_handler.proofs.intercept_response
 use Rattle.one_call.specs.Handler.{Handler}

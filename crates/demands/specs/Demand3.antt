@@ -21,7 +21,7 @@ use Rattle.keys.specs.Keys.{Name, same}
 use Rattle.entries.specs.Entries.{holds, live}
 use Rattle.block_table.specs.Table.{freshTable}
 use Rattle.judge.specs.Limits.{configOk, memoriesOk}
-use Rattle.block_handler.specs.Call.{World, Call, Done, withinLimits}
+use Rattle.call.specs.Call.{World, Call, Done, withinLimits}
 use Rattle.answers.specs.Parts.{bodyOf}
 use Rattle.one_call.specs.Handler.{Handler, entryAt}
 

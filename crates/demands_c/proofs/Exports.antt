@@ -6,7 +6,7 @@ use Rattle.pieces.proofs.Tests.{by-cases}
 use Rattle.config.specs.declared.Config.{Config}
 use Rattle.apart.specs.Answers.{kindNumber, said}
 use Rattle.keys.specs.Keys.{Name}
-use Rattle.block_handler.specs.Call.{World, Call, call}
+use Rattle.call.specs.Call.{World, Call, call}
 use Rattle.replies.specs.Reply.{replyOf}
 use Rattle.replies.proofs.Shown.{body-bytes}
 use Rattle.handler_c.specs.Contract.{Replies}

@@ -9,7 +9,7 @@ use Rattle.pieces.proofs.Memory.{patch-lent}
 use Rattle.config.specs.declared.Config.{Config}
 use Rattle.block_table.specs.declared.Table.{Table}
 use Rattle.block_table.specs.Table.{freshTable}
-use Rattle.block_handler.specs.Contract.{world}
+use Rattle.call.specs.Contract.{world}
 use Rattle.replay_control.specs.Control.{configText}
 use Rattle.script_state.specs.Sizes.{memoryOf, lineRoom}
 use Rattle.script_state.specs.declared.Step.{Step}

@@ -6,8 +6,8 @@ use lib.ListN.{take, drop, replicate}
 use Rattle.config.specs.declared.Config.{Config}
 use Rattle.block_table.specs.declared.Table.{Table}
 use Rattle.block_table.specs.Table.{freshTable}
-use Rattle.block_handler.specs.Call.{World}
-use Rattle.block_handler.specs.Contract.{world}
+use Rattle.call.specs.Call.{World}
+use Rattle.call.specs.Contract.{world}
 use Rattle.replay_control.specs.Control.{configText}
 use Rattle.pieces.specs.Memory.{Put}
 use Rattle.script_state.specs.Sizes.{memoryOf, lineRoom}

@@ -14,7 +14,7 @@ use replies::Reply;
 ghost use mathlib.Core.Path.{_≡_};
 ghost use Rattle.block_option.specs.Option.{readOf, written, inTwo};
 ghost use Rattle.block_table.specs.Table.{freshTable};
-ghost use Rattle.block_handler.specs.Contract.{world, requestCall, responseCall};
+ghost use Rattle.call.specs.Contract.{world, requestCall, responseCall};
 ghost use Rattle.replies.specs.Found.{foundIn, bodyIn, servedHeadIn, chunkIn, sentIn};
 ghost use Rattle.handler_c.specs.Options.{plainConfig, blockRead};
 ghost use Rattle.handler_c.specs.Contract.{Replies};

@@ -20,7 +20,7 @@ use Rattle.places.specs.Places.{place, opened}
 use Rattle.places.proofs.Places.{opened-own, opened-new}
 use Rattle.places.proofs.Put.{opened-fits}
 use Rattle.judge.specs.Limits.{memoriesOk}
-use Rattle.block_handler.specs.Call.{World, Call, done, whatOk, withinLimits, rowOf, callAt, call}
+use Rattle.call.specs.Call.{World, Call, done, whatOk, withinLimits, rowOf, callAt, call}
 use Rattle.judge.proofs.Judged.{ConfigFits, config-fits}
 use Rattle.lent_steps.specs.Lent.{Lent, usable, requestRoom, responseRoom, requestLent, responseLent}
 use Rattle.lent_steps.proofs.Forms.{with-room}

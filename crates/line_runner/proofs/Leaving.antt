@@ -9,8 +9,8 @@ use lib.Seq.{length-take-le}
 use borrow.Author.Tests.{lt-ltb, le-ltb}
 use Rattle.config.specs.declared.Config.{Config}
 use Rattle.block_table.specs.declared.Table.{Table}
-use Rattle.block_handler.specs.Call.{World}
-use Rattle.block_handler.specs.Contract.{world}
+use Rattle.call.specs.Call.{World}
+use Rattle.call.specs.Contract.{world}
 use Rattle.answer_text.specs.Answer.{unreadableText}
 use Rattle.replay_control.specs.Control.{controlOf}
 use Rattle.replay_control.specs.declared.Control.{Control}

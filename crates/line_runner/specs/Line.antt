@@ -6,7 +6,7 @@ use mathlib.Core.List.{List}
 use lib.Dec.{ltb}
 use lib.ListN.{length}
 use Rattle.config.specs.declared.Config.{Config}
-use Rattle.block_handler.specs.Call.{World}
+use Rattle.call.specs.Call.{World}
 use Rattle.script.specs.Line.{lineOf}
 use Rattle.answer_text.specs.Answer.{unreadableText}
 use Rattle.replay_control.specs.declared.Control.{Control}

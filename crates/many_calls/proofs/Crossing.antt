@@ -18,8 +18,8 @@ use Rattle.block_state.specs.State.{assembly}
 use Rattle.pieces.specs.Memory.{pieceOf}
 use Rattle.keys.specs.Keys.{Name, keyOk}
 use Rattle.block_table.proofs.Row.{Unique}
-use Rattle.block_handler.specs.Call.{World, Call, Done, done, whatOk, callAt, rowOf, withinLimits, call}
-use Rattle.block_handler.proofs.Frame.{WorldFits, fits-limits, call-fits, call-placed}
+use Rattle.call.specs.Call.{World, Call, Done, done, whatOk, callAt, rowOf, withinLimits, call}
+use Rattle.call.proofs.Frame.{WorldFits, fits-limits, call-fits, call-placed}
 use Rattle.one_call.specs.Handler.{entryAt}
 use Rattle.one_call.proofs.Outcomes.{placeOf, openedOf, storing-assembled, early-or-placed}
 use Rattle.demands.specs.Demand3.{Seen, after, Sent, callOn, joined, Rising, All, AllBytes, lastOf}

@@ -19,8 +19,8 @@ use Rattle.block_table.specs.Table.{at}
 use Rattle.block_table.proofs.Row.{at-sweep, at-set}
 use Rattle.block_table.proofs.TableFits.{row-length, row-unique}
 use Rattle.places.proofs.Places.{opened-own, opened-new, opened-key, place-holds, others}
-use Rattle.block_handler.specs.Call.{World, Call, rowOf}
-use Rattle.block_handler.proofs.Frame.{WorldFits}
+use Rattle.call.specs.Call.{World, Call, rowOf}
+use Rattle.call.proofs.Frame.{WorldFits}
 use Rattle.one_call.specs.Handler.{entryAt}
 use Rattle.one_call.proofs.Outcomes.{placeOf, openedOf}
 

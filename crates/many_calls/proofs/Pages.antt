@@ -32,8 +32,8 @@ use Rattle.entries.specs.Entries.{inUse}
 use Rattle.block_table.specs.Table.{at}
 use Rattle.answers.specs.Parts.{partOf, servedHead, servedChunk}
 use Rattle.answers.proofs.Served.{served-shows}
-use Rattle.block_handler.specs.Call.{World, Call, Done, callAt, rowOf, call}
-use Rattle.block_handler.proofs.Frame.{WorldFits, call-cases, call-fits}
+use Rattle.call.specs.Call.{World, Call, Done, callAt, rowOf, call}
+use Rattle.call.proofs.Frame.{WorldFits, call-cases, call-fits}
 use Rattle.one_call.proofs.Agreed.{chunk-value}
 use Rattle.one_call.proofs.Outcomes.{placeOf, openedOf, cond-same, Unstored, plain, disagreed, beyond, crowded, whole as cut-whole, Storing, as-before, stores, storing, Outcome, refused}
 use Rattle.one_call.proofs.Outcomes.{past, tooLarge, continued, onwards, serves, none as no-block1, took, outcome}

@@ -23,8 +23,8 @@ use Rattle.block_table.proofs.Row.{Unique, at-sweep, at-set}
 use Rattle.block_table.proofs.TableFits.{row, row-length, row-unique}
 use Rattle.places.specs.Places.{place}
 use Rattle.places.proofs.Places.{place-most, place-new, place-unheld, opened-key}
-use Rattle.block_handler.specs.Call.{World, Call, Done, callAt, rowOf, call}
-use Rattle.block_handler.proofs.Frame.{WorldFits, call-fits, call-cases}
+use Rattle.call.specs.Call.{World, Call, Done, callAt, rowOf, call}
+use Rattle.call.proofs.Frame.{WorldFits, call-fits, call-cases}
 use Rattle.one_call.specs.Handler.{entryAt}
 use Rattle.one_call.proofs.Outcomes.{placeOf, openedOf}
 use Rattle.demands.specs.Demand3.{after, AllBytes}

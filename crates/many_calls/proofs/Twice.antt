@@ -28,8 +28,8 @@ use Rattle.keys.specs.Keys.{Name, keyOk}
 use Rattle.entries.specs.declared.Entry.{Entry}
 use Rattle.block_table.proofs.TableFits.{row}
 use Rattle.places.specs.Places.{place, opened}
-use Rattle.block_handler.specs.Call.{World, Call, whatOk, call}
-use Rattle.block_handler.proofs.Frame.{WorldFits, fits-limits, key-within, request-took, call-fits}
+use Rattle.call.specs.Call.{World, Call, whatOk, call}
+use Rattle.call.proofs.Frame.{WorldFits, fits-limits, key-within, request-took, call-fits}
 use Rattle.one_call.specs.Handler.{entryAt}
 use Rattle.one_call.specs.Touch.{Placed, RefusesTo}
 use Rattle.one_call.proofs.Checks.{misplaced-is, starts-first, meets-all}

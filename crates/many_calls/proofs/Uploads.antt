@@ -35,8 +35,8 @@ use Rattle.keys.proofs.Keys.{same-refl}
 use Rattle.entries.specs.declared.Entry.{Entry}
 use Rattle.block_table.specs.Table.{at}
 use Rattle.places.proofs.Put.{opened-fits}
-use Rattle.block_handler.specs.Call.{World, Call, Done, callAt, rowOf, withinLimits, call}
-use Rattle.block_handler.proofs.Frame.{WorldFits, key-within, call-fits}
+use Rattle.call.specs.Call.{World, Call, Done, callAt, rowOf, withinLimits, call}
+use Rattle.call.proofs.Frame.{WorldFits, key-within, call-fits}
 use Rattle.answers.specs.Parts.{partOf, bodyOf}
 use Rattle.one_call.specs.Handler.{Handler}
 use Rattle.one_call.proofs.Checks.{passed-next, first-starts, starts-first, meets-all, meets-afresh}

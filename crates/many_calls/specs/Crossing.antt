@@ -10,7 +10,7 @@ use lib.Dec.{leb}
 use Rattle.config.specs.declared.Config.{Config}
 use Rattle.block_state.specs.declared.Answer.the-variants.{Refused}
 use Rattle.keys.specs.Keys.{Name, same, keyOk}
-use Rattle.block_handler.specs.Call.{World, Call, done, whatOk}
+use Rattle.call.specs.Call.{World, Call, done, whatOk}
 use Rattle.one_call.specs.Handler.{Handler}
 use Rattle.demands.specs.Clocks.{asks, requestsOn}
 use Rattle.demands.specs.Demand3.{Seen, seen, Sent, callOn, joined, All, AllBytes, Fresh, Blocks, HandsOn}

@@ -20,7 +20,7 @@ use Rattle.block_state.specs.declared.Answer.the-variants.{Continue, TooLarge, 
 use Rattle.block_state.specs.Message.{Request, What, request, response}
 use Rattle.keys.specs.Keys.{Name, same}
 use Rattle.answers.specs.Parts.{servedHead, servedChunk}
-use Rattle.block_handler.specs.Call.{World, Call}
+use Rattle.call.specs.Call.{World, Call}
 use Rattle.one_call.specs.Handler.{Handler}
 use Rattle.demands.specs.Demand3.{after, AllBytes, Fresh}
 

@@ -10,7 +10,7 @@ use lib.ListN.{length, replicate}
 use Rattle.block_value.specs.Value.{sizeOf}
 use Rattle.config.specs.declared.Config.{Config}
 use Rattle.keys.specs.Keys.{Name}
-use Rattle.block_handler.specs.Call.{World, Call}
+use Rattle.call.specs.Call.{World, Call}
 use Rattle.one_call.specs.Handler.{Handler}
 use Rattle.one_call.specs.Touch.{RefusesTo}
 use Rattle.demands.specs.Demand3.{seen, after, Sent, callOn, lastOf, All, HandsOn}

@@ -17,7 +17,7 @@ use Rattle.block_state.specs.declared.Answer.{Answer}
 use Rattle.block_state.specs.declared.Answer.the-variants.{Handed}
 use Rattle.block_state.specs.Message.{Request, What, request, response}
 use Rattle.keys.specs.Keys.{Name, same}
-use Rattle.block_handler.specs.Call.{World, Call}
+use Rattle.call.specs.Call.{World, Call}
 use Rattle.one_call.specs.Handler.{Handler}
 use Rattle.one_call.specs.Strict.{tookBlock}
 use Rattle.demands.specs.Demand3.{seen, after, AllBytes, Fresh}

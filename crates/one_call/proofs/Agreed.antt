@@ -21,7 +21,7 @@ use Rattle.block_state.specs.declared.Answer.the-variants.{Refused}
 use Rattle.block_state.specs.Message.{Request, Response, request, response}
 use Rattle.apart.specs.Answers.{said}
 use Rattle.block_state.specs.Step.{Left}
-use Rattle.block_handler.specs.Call.{World, Call, call}
+use Rattle.call.specs.Call.{World, Call, call}
 use Rattle.one_call.specs.Touch.{Placed, RefusesTo}
 use Rattle.one_call.specs.Agreed.{requestAgrees, responseAgrees, Agrees}
 use Rattle.one_call.proofs.Step.{step-unagreed, response-unagreed}

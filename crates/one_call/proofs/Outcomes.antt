@@ -39,7 +39,7 @@ use Rattle.request_step.specs.Step.{onTaken, block1Given, onNegotiated, stepReq
 use Rattle.response_step.specs.Step.{chunked, onReply, stepResponse}
 use Rattle.entries.specs.declared.Entry.{Entry}
 use Rattle.places.specs.Places.{place, opened}
-use Rattle.block_handler.specs.Call.{World, Call, Done, done, callAt, rowOf, withinLimits, call}
+use Rattle.call.specs.Call.{World, Call, Done, done, callAt, rowOf, withinLimits, call}
 use Rattle.one_call.specs.Agreed.{requestAgrees}
 
 pub cond-same : {A : Type 0} (b : Bool) (x : A) → cond b x x ≡ x

@@ -23,8 +23,8 @@ use Rattle.block_table.specs.Table.{at}
 use Rattle.block_table.proofs.Row.{at-set-same}
 use Rattle.block_table.proofs.TableFits.{row-length}
 use Rattle.places.specs.Places.{place}
-use Rattle.block_handler.specs.Call.{World, Call, Done, callAt, rowOf, call}
-use Rattle.block_handler.proofs.Frame.{world-fits}
+use Rattle.call.specs.Call.{World, Call, Done, callAt, rowOf, call}
+use Rattle.call.proofs.Frame.{world-fits}
 use Rattle.pairing.proofs.Pairing.{refusal-number}
 use Rattle.one_call.specs.Handler.{entryAt}
 use Rattle.one_call.specs.Touch.{Placed, touched}

@@ -28,7 +28,7 @@ use Rattle.request_block1.specs.Block1.{badForm, notNext}
 use Rattle.entries.specs.Entries.{entryOk}
 use Rattle.block_table.specs.Table.{tableOk}
 use Rattle.judge.specs.Limits.{configOk, memoriesOk}
-use Rattle.block_handler.specs.Call.{World, Call, callAt, withinLimits, call}
+use Rattle.call.specs.Call.{World, Call, callAt, withinLimits, call}
 use Rattle.pairing.proofs.Pairing.{refusal-number}
 use Rattle.one_call.specs.Agreed.{requestAgrees}
 use Rattle.one_call.specs.Touch.{RefusesTo}

@@ -16,8 +16,8 @@ use Rattle.request_step.specs.Step.{stepRequest}
 use Rattle.response_step.specs.Step.{stepResponse}
 use Rattle.entries.specs.declared.Entry.{Entry}
 use Rattle.places.specs.Places.{place, opened}
-use Rattle.block_handler.specs.Call.{World, Call, callAt, rowOf, withinLimits, call}
-use Rattle.block_handler.proofs.Frame.{WorldFits, world-fits, key-within, call-placed}
+use Rattle.call.specs.Call.{World, Call, callAt, rowOf, withinLimits, call}
+use Rattle.call.proofs.Frame.{WorldFits, world-fits, key-within, call-placed}
 use Rattle.one_call.specs.Touch.{Placed, RefusesTo}
 
 module _ (c : Config) (w : World) (q : Call) (g : Placed c w q) where

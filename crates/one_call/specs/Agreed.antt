@@ -15,7 +15,7 @@ use Rattle.block_state.specs.Message.{Request, Response, request, response}
 use Rattle.apart.specs.Answers.{said}
 use Rattle.block_state.specs.State.{recordedBlock}
 use Rattle.places.specs.Places.{opened}
-use Rattle.block_handler.specs.Call.{World, Call, rowOf}
+use Rattle.call.specs.Call.{World, Call, rowOf}
 use Rattle.one_call.specs.Handler.{Handler}
 use Rattle.one_call.specs.Touch.{Placed, RefusesTo}
 

@@ -3,7 +3,7 @@ use Prim.Native.Nat.{ℕ}
 use Rattle.config.specs.declared.Config.{Config}
 use Rattle.entries.specs.declared.Entry.{Entry}
 use Rattle.block_table.specs.Table.{at}
-use Rattle.block_handler.specs.Call.{World, Call, Done}
+use Rattle.call.specs.Call.{World, Call, Done}
 
 -- Any function from the configuration, the table and memories, and a call, to what is left of them and the answer.
 abbrev pub Handler : Type 0

@@ -17,7 +17,7 @@ use Rattle.block_state.specs.declared.Answer.{Answer}
 use Rattle.block_state.specs.declared.Answer.the-variants.{Continue, TooLarge, Handed, Pass, Served, Plain, Whole, First, Refused}
 use Rattle.block_state.specs.Message.{Request, Response, request, response}
 use Rattle.places.specs.Places.{opened}
-use Rattle.block_handler.specs.Call.{World, Call, rowOf}
+use Rattle.call.specs.Call.{World, Call, rowOf}
 use Rattle.one_call.specs.Handler.{Handler}
 use Rattle.one_call.specs.Touch.{Placed, RefusesTo}
 

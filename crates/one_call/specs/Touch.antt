@@ -6,7 +6,7 @@ use lib.ListN.{length}
 use Rattle.config.specs.declared.Config.{Config}
 use Rattle.block_state.specs.declared.Answer.the-variants.{Refused}
 use Rattle.places.specs.Places.{place, opened}
-use Rattle.block_handler.specs.Call.{World, Call, rowOf, tableAfter, withinLimits}
+use Rattle.call.specs.Call.{World, Call, rowOf, tableAfter, withinLimits}
 use Rattle.one_call.specs.Handler.{Handler}
 
 -- A call that passes checks 1 to 3: within the limits, not before the clock, with a place. (That a table has sixteen entries is given by its type.)

@@ -1,7 +1,7 @@
 -- The contract of an exported call: its answer, the table and every byte of both memories are the definition's.
 use mathlib.Core.Path.{_≡_}
 use Rattle.config.specs.declared.Config.{Config}
-use Rattle.block_handler.specs.Call.{World, Call, call}
+use Rattle.call.specs.Call.{World, Call, call}
 use Rattle.replies.specs.declared.Reply.{Reply}
 use Rattle.replies.specs.Reply.{replyOf}
 

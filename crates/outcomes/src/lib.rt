@@ -5,7 +5,7 @@ use block_table::Table;
 use config::Config;
 use replies::Reply;
 use table_change::Change;
-ghost use Rattle.block_handler.specs.Contract.{world, requestCall, responseCall};
+ghost use Rattle.call.specs.Contract.{world, requestCall, responseCall};
 ghost use Rattle.table_change.specs.Change.{changed};
 ghost use Rattle.outcomes.specs.Contract.{Replies};
 
@@ -30,7 +30,7 @@ pub fn request<'a>(
         (requestCall numbers (now (key .entry)) (now (block1 .entry)) (now (block2 .entry)) (now (payload .entry)))
         (world (changed (config .lifetime) (numbers .time) table (r .change)) (now (upload .exit)) (now (response .entry))) (r .reply) ⌝ }
 {
-    let change = block_handler::request_change(
+    let change = request_call::request_change(
         config,
         table,
         upload,
@@ -62,7 +62,7 @@ pub fn response<'a>(
         (responseCall numbers (now (key .entry)) (now (head .entry)) (now (payload .entry)))
         (world (changed (config .lifetime) (numbers .time) table (r .change)) (now (upload .entry)) (now (response .exit))) (r .reply) ⌝ }
 {
-    let change = block_handler::response_change(
+    let change = response_call::response_change(
         config,
         table,
         upload,

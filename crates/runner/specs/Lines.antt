@@ -5,7 +5,7 @@ use mathlib.Core.List.{List, [], _∷_, _++_}
 use lib.Dec.{ltb, eqb}
 use lib.ListN.{length}
 use Rattle.config.specs.declared.Config.{Config}
-use Rattle.block_handler.specs.Call.{World}
+use Rattle.call.specs.Call.{World}
 use Rattle.script_cut.specs.Cut.{cutAt}
 use Rattle.script_state.specs.declared.State.{State}
 use Rattle.script_state.specs.Start.{header}

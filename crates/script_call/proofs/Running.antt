@@ -7,8 +7,8 @@ use Rattle.pieces.specs.Memory.{Put}
 use Rattle.pieces.proofs.Puts.{put-as}
 use Rattle.block_state.specs.declared.Answer.{Answer}
 use Rattle.block_table.specs.declared.Table.{Table}
-use Rattle.block_handler.specs.Call.{World, Call, Done, done, call}
-use Rattle.block_handler.specs.Contract.{world, requestCall, responseCall, Meant}
+use Rattle.call.specs.Call.{World, Call, Done, done, call}
+use Rattle.call.specs.Contract.{world, requestCall, responseCall, Meant}
 use Rattle.script.specs.Line.{Said}
 use Rattle.script.specs.declared.Request.{Request}
 use Rattle.script.specs.declared.Response.{Response}

@@ -8,8 +8,8 @@ use Rattle.block_state.specs.declared.RequestNumbers.{RequestNumbers}
 use Rattle.block_state.specs.declared.ResponseNumbers.{ResponseNumbers}
 use Rattle.block_state.specs.declared.Answer.{Answer}
 use Rattle.block_table.specs.declared.Table.{Table}
-use Rattle.block_handler.specs.Call.{World, Done, call}
-use Rattle.block_handler.specs.Contract.{world, requestCall, responseCall}
+use Rattle.call.specs.Call.{World, Done, call}
+use Rattle.call.specs.Contract.{world, requestCall, responseCall}
 use Rattle.script.specs.Line.{Said, request, response, unreadable, saidBy}
 use Rattle.script.specs.declared.Line.the-variants as line
 use Rattle.script.specs.declared.Request.{Request}

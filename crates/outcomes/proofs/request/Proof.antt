@@ -1,5 +1,5 @@
 use mathlib.Core.Path.{ap, _∙_}
-use Rattle.block_handler.specs.Call.{Done}
+use Rattle.call.specs.Call.{Done}
 use Rattle.replies.specs.Reply.{replyOf}
 use borrow.Author.Needs.{needs}
 use Rattle.outcomes.proofs.request.Statement.{statement}

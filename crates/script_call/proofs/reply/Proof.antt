@@ -2,7 +2,7 @@ use mathlib.Core.Path.{sym}
 use native.Mathlib.Omega.{arith}
 use lib.Seq.{length-take-le}
 use Rattle.script_call.proofs.Running.{runs-replied}
-use Rattle.block_handler.specs.Contract.{world}
+use Rattle.call.specs.Contract.{world}
 use borrow.Author.Needs.{needs}
 use Rattle.script_call.proofs.reply.Statement.{statement}
 use Rattle.script_call.proofs.reply.Tie as tie

@@ -1,11 +1,11 @@
 use mathlib.Core.Path.{sym, _∙_}
 use Rattle.keys.proofs.Keys.{named-key}
 use Rattle.judge.proofs.Judged.{at-place, verdict-seen}
-use Rattle.block_handler.proofs.Meanings.{call-by, response-ok, refusal}
+use Rattle.call.proofs.Meanings.{call-by, response-ok, refusal}
 use Rattle.places.proofs.Sighted.{seen-below}
 use borrow.Author.Needs.{needs}
-use Rattle.block_handler.proofs.calls.response_change.Statement.{statement}
-use Rattle.block_handler.proofs.calls.response_change.Tie as tie
+use Rattle.response_call.proofs.response_change.Statement.{statement}
+use Rattle.response_call.proofs.response_change.Tie as tie
 
 response-at-requires : tie.Need-response-at-requires
 response-at-requires c κs =

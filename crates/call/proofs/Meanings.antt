@@ -40,8 +40,8 @@ use Rattle.judge.specs.declared.Verdict.{Verdict}
 use Rattle.judge.specs.declared.Verdict.the-variants as verdict
 use Rattle.judge.specs.Verdict.{lengths, messageOk, limitsOk, verdictOf, HasPlace}
 use Rattle.judge.proofs.Judged.{verdict-is, at-place, seen-entry, seen-freed}
-use Rattle.block_handler.specs.Call.{World, Call, Done, done, whatOk, withinLimits, tableAfter, requestLeft, responseLeft, callAt, rowOf, call}
-use Rattle.block_handler.specs.Contract.{world, askedAt}
+use Rattle.call.specs.Call.{World, Call, Done, done, whatOk, withinLimits, tableAfter, requestLeft, responseLeft, callAt, rowOf, call}
+use Rattle.call.specs.Contract.{world, askedAt}
 
 -- ---- a call by its verdict
 

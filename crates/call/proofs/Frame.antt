@@ -33,7 +33,7 @@ use Rattle.places.proofs.Places.{elsewhere}
 use Rattle.block_table.proofs.TableFits.{TableFits, table-fits, fits-table, row-length, row-live}
 use Rattle.places.proofs.Put.{opened-fits, put-fits}
 use Rattle.judge.specs.Limits.{configOk, memoriesOk}
-use Rattle.block_handler.specs.Call.{World, Call, Done, done, whatOk, withinLimits, callAt, rowOf, call}
+use Rattle.call.specs.Call.{World, Call, Done, done, whatOk, withinLimits, callAt, rowOf, call}
 
 -- the limits of what one call hands on to the next
 pub record WorldFits (c : Config) (w : World) : Type 0 where

@@ -2,12 +2,12 @@ use mathlib.Core.Path.{refl, sym, _∙_}
 use lib.ListN.{length}
 use Rattle.keys.proofs.Keys.{named-key}
 use Rattle.judge.proofs.Judged.{at-place, verdict-seen}
-use Rattle.block_handler.specs.Contract.{requestCall}
-use Rattle.block_handler.proofs.Meanings.{call-by, request-ok, refusal, asked-is}
+use Rattle.call.specs.Contract.{requestCall}
+use Rattle.call.proofs.Meanings.{call-by, request-ok, refusal, asked-is}
 use Rattle.places.proofs.Sighted.{seen-below}
 use borrow.Author.Needs.{needs}
-use Rattle.block_handler.proofs.calls.request_change.Statement.{statement}
-use Rattle.block_handler.proofs.calls.request_change.Tie as tie
+use Rattle.request_call.proofs.request_change.Statement.{statement}
+use Rattle.request_call.proofs.request_change.Tie as tie
 
 request-at-requires : tie.Need-request-at-requires
 request-at-requires c κs =

@@ -8,11 +8,11 @@ use Rattle.places.specs.Places.{opened}
 use Rattle.keys.specs.Keys.{Name}
 use Rattle.judge.specs.Verdict.{lengths}
 use Rattle.judge.proofs.Judged.{AtPlace, at-place}
-use Rattle.block_handler.specs.Contract.{Placed}
-use Rattle.block_handler.proofs.Meanings.{opened-at, changed-at, lent-piece, lent-length, lent-back, asked-left}
+use Rattle.call.specs.Contract.{Placed}
+use Rattle.call.proofs.Meanings.{opened-at, changed-at, lent-piece, lent-length, lent-back, asked-left}
 use borrow.Author.Needs.{needs}
-use Rattle.block_handler.proofs.calls.request_at.Statement.{statement}
-use Rattle.block_handler.proofs.calls.request_at.Tie as tie
+use Rattle.request_call.proofs.request_at.Statement.{statement}
+use Rattle.request_call.proofs.request_at.Tie as tie
 
 -- what the verdict tells
 placed : (c : tie.Start) → let a = c .args in

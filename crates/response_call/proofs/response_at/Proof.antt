@@ -7,10 +7,10 @@ use Rattle.block_table.specs.Table.{sweep}
 use Rattle.places.specs.Places.{opened}
 use Rattle.judge.specs.Verdict.{lengths}
 use Rattle.judge.proofs.Judged.{AtPlace, at-place}
-use Rattle.block_handler.proofs.Meanings.{opened-at, changed-at, lent-piece, lent-length, lent-back, response-left}
+use Rattle.call.proofs.Meanings.{opened-at, changed-at, lent-piece, lent-length, lent-back, response-left}
 use borrow.Author.Needs.{needs}
-use Rattle.block_handler.proofs.calls.response_at.Statement.{statement}
-use Rattle.block_handler.proofs.calls.response_at.Tie as tie
+use Rattle.response_call.proofs.response_at.Statement.{statement}
+use Rattle.response_call.proofs.response_at.Tie as tie
 
 -- what the verdict tells
 placed : (c : tie.Start) → let a = c .args in

@@ -18,7 +18,7 @@ use Rattle.block_table.specs.declared.Table.{Table}
 use Rattle.places.specs.declared.Sight.{Sight}
 use Rattle.judge.specs.declared.Lengths.{Lengths}
 use Rattle.judge.specs.Verdict.{HasPlace}
-use Rattle.block_handler.specs.Call.{World, Call, Done, done, requestLeft, call}
+use Rattle.call.specs.Call.{World, Call, Done, done, requestLeft, call}
 
 abbrev pub world : Table → List ℕ → List ℕ → World
 world t u d = record { table = t; upload = u; response = d }
