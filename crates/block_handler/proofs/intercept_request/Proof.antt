@@ -1,6 +1,6 @@
 use borrow.Author.Needs.{needs}
-use Rattle.call.proofs.intercept_request.Statement.{statement}
-use Rattle.call.proofs.intercept_request.Tie as tie
+use Rattle.block_handler.proofs.intercept_request.Statement.{statement}
+use Rattle.block_handler.proofs.intercept_request.Tie as tie
 
 returns : tie.Need-returns
 returns c = rw (c .changed-table .ensures) (c .before .before .before .request-change .ensures .0)

@@ -1,6 +1,6 @@
 use borrow.Author.Needs.{needs}
-use Rattle.call.proofs.intercept_response.Statement.{statement}
-use Rattle.call.proofs.intercept_response.Tie as tie
+use Rattle.block_handler.proofs.intercept_response.Statement.{statement}
+use Rattle.block_handler.proofs.intercept_response.Tie as tie
 
 returns : tie.Need-returns
 returns c = rw (c .changed-table .ensures) (c .before .before .before .response-change .ensures .0)
