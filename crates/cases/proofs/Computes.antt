@@ -2,6 +2,7 @@
 use Rattle.pieces.specs.Memory as memory
 use Rattle.splicing.specs.Splice as splice
 use Rattle.block_value.specs.Value as value
+use Rattle.block_option.specs.Option as option
 use Rattle.negotiation.specs.Negotiation as negotiation
 use Rattle.chunks.specs.Chunk as chunk
 use Rattle.block_state.specs.State as state
@@ -17,7 +18,7 @@ use Rattle.judge.specs.Limits as judge
 use Rattle.call.specs.Call as h
 
 unfoldable pub values : Unit {0}
-unfolding value.largestPower value.made value.sizeOf value.readOf negotiation.requestBlock negotiation.negotiated negotiation.within negotiation.replyAt chunk.chunkOf
+unfolding value.largestPower value.made value.sizeOf option.readOf negotiation.requestBlock negotiation.negotiated negotiation.within negotiation.replyAt chunk.chunkOf
 values = tt
 
 unfoldable pub memories : Unit {0}
