@@ -4,6 +4,9 @@ use block_state::RequestNumbers;
 use block_state::ResponseNumbers;
 use block_table::Table;
 use config::Config;
+use table_change::Change;
+ghost use mathlib.Core.Path.{_≡_};
+ghost use Rattle.table_change.specs.Change.{changed};
 ghost use Rattle.call.specs.Contract.{world, requestCall, responseCall, Meant};
 
 // What a call leaves of the table, and what it answers.
@@ -12,7 +15,19 @@ pub struct Outcome {
     pub answer: Answer,
 }
 
-// A request, before the application sees it.
+// The outcome of a call: its change is made.
+fn with_change(table: Table, lifetime: u64, time: u64, change: Change) -> Outcome
+    ensures { λ r. ⌜ (r .table ≡ changed lifetime time table change) × (r .answer ≡ change .answer) ⌝ }
+{
+    let answer = change.answer;
+    let next = table_change::changed_table(table, lifetime, time, change);
+    Outcome {
+        table: next,
+        answer,
+    }
+}
+
+// A request, before the application sees it. The block options are given or not, and their bytes count only if they are.
 pub fn intercept_request<'a>(
     config: Config,
     table: Table,
@@ -39,15 +54,10 @@ pub fn intercept_request<'a>(
         block2,
         payload,
     );
-    let answer = change.answer;
-    let next = table_change::changed_table(table, config.lifetime, numbers.time, change);
-    Outcome {
-        table: next,
-        answer,
-    }
+    with_change(table, config.lifetime, numbers.time, change)
 }
 
-// A response, before it is sent.
+// A response, before it is sent. `head` is its encoded header and options.
 pub fn intercept_response<'a>(
     config: Config,
     table: Table,
@@ -71,10 +81,5 @@ pub fn intercept_response<'a>(
         head,
         payload,
     );
-    let answer = change.answer;
-    let next = table_change::changed_table(table, config.lifetime, numbers.time, change);
-    Outcome {
-        table: next,
-        answer,
-    }
+    with_change(table, config.lifetime, numbers.time, change)
 }

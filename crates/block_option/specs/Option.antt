@@ -1,5 +1,5 @@
--- Document 01, "Block value": what read and write come to, on lists of bytes. They take the configuration, since what they take is a mode's to say;
--- document 01 says the same for both modes, so nothing of it counts here.
+-- Document 01, "Block value": what read and write come to, on lists of bytes. They take the configuration, of which nothing counts here: document 01 says the
+-- same for both modes.
 use Prim.Native.Nat.{ℕ, _+_, _*_, _/_, _%_}
 use mathlib.Core.Bool.{cond}
 use mathlib.Core.List.{List, [], _∷_, _++_}
@@ -22,7 +22,7 @@ readOf c (a ∷ []) = Value (unpacked a)
 readOf c (a ∷ b ∷ []) = Value (unpacked (a * 256 + b))
 readOf c (a ∷ b ∷ d ∷ rest) = Unreadable
 
--- "Num*16 + 8 if more + exponent, num taken modulo 4096." Of an exponent above 7, which no block value has, the low three bits count.
+-- "Num*16 + 8 if more + exponent, num taken modulo 4096." Of an exponent above 7, which neither make nor read gives, the low three bits count.
 abbrev pub packed : Config → BlockValue → ℕ
 packed c b = b .num % 4096 * 16 + cond (b .more) 8 0 + b .«size_exponent» % 8
 

@@ -1,4 +1,4 @@
-// The bytes of a Block1 or Block2 option: read, write.
+// The bytes of a Block1 or Block2 option: read, write. Both take the configuration, since their limits are a mode's; today the two modes have the same.
 use block_value::BlockValue;
 use config::Config;
 ghost use mathlib.Core.Path.{_≡_};

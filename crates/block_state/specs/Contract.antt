@@ -1,4 +1,4 @@
--- How the code's parameters make a message, and what the steps ask of their callers.
+-- How the code's parameters make a message, and what a request's step asks of its caller.
 use Prim.Native.Nat.{ℕ, _^_, _≤_, _<_}
 use mathlib.Core.Path.{_≡_}
 use mathlib.Core.List.{List}

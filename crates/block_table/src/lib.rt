@@ -27,7 +27,7 @@ fn alone_from(e: Entry, entries: [Entry; 16], from: usize) -> bool
     true
 }
 
-// Byte by byte, which is slow: only where two tags are equal.
+// Byte by byte, which is slow.
 pub fn all_distinct(entries: [Entry; 16]) -> bool
     ensures { λ r. ⌜ r ≡ distinct entries ⌝ }
 {

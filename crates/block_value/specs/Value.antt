@@ -1,5 +1,5 @@
--- Document 01, "Block value": what make and size come to. Make takes the configuration, since what it takes is a mode's to say; document 01 says the same
--- for both modes, so nothing of it counts here.
+-- Document 01, "Block value": what make and size come to, and where a block starts. Make takes the configuration, of which nothing counts here: document 01 says
+-- the same for both modes.
 use Prim.Native.Nat.{ℕ, zero, suc, _+_, _-_, _*_, _%_, _^_}
 use mathlib.Core.Bool.{Bool, cond}
 use lib.Dec.{leb, ltb, eqb}

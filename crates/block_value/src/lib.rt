@@ -31,7 +31,7 @@ fn largest_power_of_2_not_in_excess(target: usize) -> usize
     exponent
 }
 
-// Makes a block value. The configuration goes to make, and to read and write, whose limits are those of a mode; today the two modes have the same.
+// Makes a block value. It takes the configuration, since its limits are a mode's; today the two modes have the same.
 pub fn make(config: Config, num: usize, more: bool, size: usize) -> Made
     ensures { λ r. ⌜ r ≡ made config num more size ⌝ }
 {

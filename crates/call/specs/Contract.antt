@@ -34,7 +34,7 @@ responseCall q key head payload = record { time = q .time; key = key; what = res
 abbrev pub Meant : Config → World → Call → World → Answer → Type 0
 Meant c w q w′ a = done w′ a ≡ call c w q
 
--- ---- How the code makes a call at its place. No contract of the two calls cites these.
+-- ---- How the code makes a call at its place. No contract of the handler's two calls, nor of an export, cites these.
 
 -- The table seen so has place i for a call on the key of this name, stored so.
 abbrev pub Placed : Config → Sight → Key → ℕ → Lengths → ℕ → Name → Table → Type 0

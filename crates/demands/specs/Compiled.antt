@@ -1,4 +1,4 @@
--- Demand 3 of the compiled calls. Meant c w q w′ a is what both `intercept_request` and `intercept_response` ensure (crates/block_handler/src/calls.rt; RequestEnsures and
+-- Demand 3 of the compiled calls. Meant c w q w′ a is what both `intercept_request` and `intercept_response` ensure (crates/block_handler/src/lib.rt; RequestEnsures and
 -- ResponseEnsures below say it of the contracts themselves): c is the configuration, w the table and memories that the call is lent, q the call that its
 -- parameters make (requestCall, responseCall), w′ the table that it returns and the memories as it leaves them, and a its answer. The body
 -- that is seen is what the function `body` ensures, bodyOf (crates/answers/src/parts.rt). None of the three asks anything of its caller.

@@ -1,4 +1,4 @@
-// One entry of the table: its limits, expiry, and how a key's entry starts.
+// One entry of the table: its limits, its tag, whether two have one key, expiry, and how a key's entry starts.
 use block_state::Assembled;
 use block_state::BlockState;
 use block_state::Cached;

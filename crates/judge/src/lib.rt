@@ -23,7 +23,7 @@ pub struct Lengths {
     pub head: usize,
 }
 
-fn within(least: u64, n: u64, most: u64) -> bool
+fn between(least: u64, n: u64, most: u64) -> bool
     ensures { λ r. ⌜ r ≡ between least n most ⌝ }
 {
     (least <= n) & (n <= most)
@@ -32,10 +32,10 @@ fn within(least: u64, n: u64, most: u64) -> bool
 fn config_ok(config: Config) -> bool
     ensures { λ r. ⌜ r ≡ configOk config ⌝ }
 {
-    within(1, wide::u64_of_usize(config.limit), 65535)
-        & within(1, config.lifetime, 4294967295)
-        & within(16, wide::u64_of_usize(config.upload), 65536)
-        & within(16, wide::u64_of_usize(config.response), 65536)
+    between(1, wide::u64_of_usize(config.limit), 65535)
+        & between(1, config.lifetime, 4294967295)
+        & between(16, wide::u64_of_usize(config.upload), 65536)
+        & between(16, wide::u64_of_usize(config.response), 65536)
 }
 
 fn memories_ok(config: Config, u: usize, v: usize) -> bool

@@ -1,4 +1,4 @@
--- A key as a call names it and as an entry stores it. All that the rest uses of a key are the laws in proofs/Keys.antt.
+-- A key as a call names it and as an entry stores it. What proofs about tables and calls use of a key are the laws in proofs/Keys.antt.
 use Prim.Native.Nat.{ℕ, _-_}
 use mathlib.Core.Bool.{Bool, true, false, cond, _&&_}
 use mathlib.Core.List.{List, [], _∷_, _++_}

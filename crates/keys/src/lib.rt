@@ -1,5 +1,5 @@
-// A key, as a call names it and as an entry stores it: its limits, its bytes, its tag, and when two are the same. But for `named_keys`, which makes one, and the
-// text of the state, only this crate looks inside one.
+// A stored key: its limits, its bytes, its tag, and when two are the same; and the form of a named one, which `named_keys` makes. Only these two crates and the text of
+// the state look inside a `Key`.
 ghost use mathlib.Core.Path.{_≡_};
 ghost use mathlib.Core.Bool.{true};
 ghost use Prim.Native.Nat.{_≤_};

@@ -43,7 +43,7 @@ fn stored_key(key: &[u8]) -> Key
     }
 }
 
-// A call reads the bytes of its key here, and nowhere else.
+// The handler's two calls read the bytes of their key here, and nowhere else.
 pub fn named(key: &[u8]) -> NamedKey
     ensures { λ r. ⌜ r ≡ namedOf (now (key .entry)) ⌝ }
 {

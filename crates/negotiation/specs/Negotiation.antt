@@ -34,7 +34,7 @@ abbrev pub replyOf : Made → Negotiated
 replyOf (made-variants.Value b) = Block b
 replyOf made-variants.Refused = Refused 5
 
--- "If g = 0, refusal 5. Else make(floor(ks/g), ks + g < p, g)", at offset = ks: g is used unrounded.
+-- "If g = 0, refusal 5 .. Else make(floor(ks/g), ks + g < p, g)", at offset = ks: g is used unrounded.
 unfoldable pub replyAt : Config → ℕ → ℕ → ℕ → Negotiated
 replyAt c offset g p = cond (eqb g 0) (Refused 5) (replyOf (made c (offset / g) (ltb (offset + g) p) g))
 

@@ -1,4 +1,4 @@
-// The size negotiation.
+// The size negotiation, and the option that counts as absent.
 use block_option::Reading;
 use block_value::BlockValue;
 use block_value::Made;

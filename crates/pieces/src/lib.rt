@@ -1,4 +1,4 @@
-// Lent memory: bytes copied into it and filled.
+// Lent memory: bytes copied into it, zeros filled in, and a part of it lent on.
 ghost use mathlib.Core.List.{_∷_, []};
 ghost use mathlib.Core.Path.{_≡_};
 ghost use Prim.Native.Nat.{_+_, _<_, _≤_};

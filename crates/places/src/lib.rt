@@ -196,7 +196,8 @@ fn count(entries: [Entry; 16]) -> usize
     16
 }
 
-// What a call needs of the table. Both walks stand here, since a function that walks the row copies it first.
+// What a call needs of the table, for a key that `named_keys::named` made: of any other the contract says nothing. Both walks stand here, since a function that walks
+// the row copies it first.
 pub fn look(config: Config, table: Table, time: u64, named: NamedKey) -> Sight
     ensures { λ r. ⌜ ((k : Name) → named ≡ namedOf k → Sees config time k table r) ⌝ }
 {

@@ -64,7 +64,7 @@ found-bytes Nothing message memory = refl
 found-bytes Message message memory = let all : length message - 0 ≡ length message = omega arith in rw all (take-all (length message) message (omega arith))
 found-bytes (Within p) message memory = by-cases (leb (p .from) (p .to) && leb (p .to) (length memory)) (λ e. rw e) (λ e. rw e)
 
--- The bytes that a caller takes of each part are those that block_handler's own functions lend.
+-- The bytes that a caller takes of each part are those that the functions of `answers` lend.
 module _ (a : Answer) where
   pub body-bytes : (payload upload : List ℕ) → bytesAt (foundIn (bodyIn (replyOf a)) (length payload) (length upload)) payload upload ≡ bodyOf a payload upload
   body-bytes payload upload = found-bytes _ payload upload

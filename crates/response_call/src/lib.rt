@@ -9,7 +9,7 @@ use places::Sight;
 use table_change::Change;
 ghost use mathlib.Core.Path.{_≡_};
 ghost use mathlib.Core.List.{List};
-ghost use Prim.Native.Nat.{ℕ, _<_};
+ghost use Prim.Native.Nat.{ℕ};
 ghost use lib.ListN.{length};
 ghost use Rattle.block_state.specs.Message.{response};
 ghost use Rattle.block_state.specs.Contract.{replying};
@@ -39,7 +39,7 @@ fn response_at<'a>(
         → done (world (changed (config .lifetime) (numbers .time) t r) m (now (response .exit))) (r .answer)
         ≡ callAt config (world t m (now (response .entry))) (numbers .time) (sweep (config .lifetime) (numbers .time) (t .entries)) i
         (opened k (sweep (config .lifetime) (numbers .time) (t .entries)))
-        (Rattle.block_state.specs.Message.response (replying numbers (now (head .entry)) (now (payload .entry))))) × (r .at ≡ i) ⌝ }
+        (Rattle.block_state.specs.Message.response (replying numbers (now (head .entry)) (now (payload .entry))))) ⌝ }
 {
     let e = table_change::opened_entry(config, sight, numbers.time, key);
     let state = e.state;
@@ -58,6 +58,7 @@ fn response_at<'a>(
 }
 
 // A response: the response memory is changed here, and what changes of the table is returned. `head` is its encoded header and options.
+// Of the change only what it makes of this table, at this time and lifetime, is fixed: `freed`, `at` and `entry` may differ where that comes to the same.
 pub fn response_change<'a>(
     config: Config,
     table: Table,
@@ -68,9 +69,9 @@ pub fn response_change<'a>(
     head: &'a [u8],
     payload: &'a [u8],
 ) -> Change
-    ensures { λ r. ⌜ (Meant config (world table (now (upload .entry)) (now (response .entry)))
+    ensures { λ r. ⌜ Meant config (world table (now (upload .entry)) (now (response .entry)))
         (responseCall numbers (now (key .entry)) (now (head .entry)) (now (payload .entry)))
-        (world (changed (config .lifetime) (numbers .time) table r) (now (upload .entry)) (now (response .exit))) (r .answer)) × (r .at < 16) ⌝ }
+        (world (changed (config .lifetime) (numbers .time) table r) (now (upload .entry)) (now (response .exit))) (r .answer) ⌝ }
 {
     let lengths = Lengths {
         upload: upload.len(),

@@ -15,9 +15,9 @@ use Rattle.table_change.specs.declared.Change.{Change}
 abbrev pub changed : ℕ → ℕ → Table → Change → Table
 changed lifetime time t g = tableWith (g .clock) (cond (g .freed) (sweep lifetime time (t .entries)) (t .entries)) (g .at) (g .entry)
 
--- ---- How the code makes a change. No contract of the two calls cites these.
+-- ---- How the code makes a change. No contract of the handler's two calls, nor of an export, cites these.
 
--- What a refusal changes: nothing, since the entry that is seen goes back where it stood.
+-- What a refusal by checks 1 to 3 changes of the table that was seen: nothing, since the entry that is seen goes back where it stood.
 abbrev pub unchanged : Sight → ℕ → Change
 unchanged s n = record { freed = false; clock = s .clock; at = s .at; entry = s .entry; answer = Refused n }
 

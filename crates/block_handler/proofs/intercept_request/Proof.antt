@@ -3,7 +3,7 @@ use Rattle.block_handler.proofs.intercept_request.Statement.{statement}
 use Rattle.block_handler.proofs.intercept_request.Tie as tie
 
 returns : tie.Need-returns
-returns c = rw (c .changed-table .ensures) (c .before .before .before .request-change .ensures .0)
+returns c = rw (c .with-change .ensures .0, c .with-change .ensures .1) (c .before .before .before .request-change .ensures)
 
 pub intercept-request-spec : {M : Type 1} → statement M
 intercept-request-spec =

@@ -3,7 +3,7 @@ use Rattle.block_handler.proofs.intercept_response.Statement.{statement
 use Rattle.block_handler.proofs.intercept_response.Tie as tie
 
 returns : tie.Need-returns
-returns c = rw (c .changed-table .ensures) (c .before .before .before .response-change .ensures .0)
+returns c = rw (c .with-change .ensures .0, c .with-change .ensures .1) (c .before .before .before .response-change .ensures)
 
 pub intercept-response-spec : {M : Type 1} → statement M
 intercept-response-spec =

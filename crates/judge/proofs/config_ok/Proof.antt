@@ -10,10 +10,10 @@ returns c =
     let upload = response .before .before in
     let limit = upload .before .before .before in
     rw (
-      upload .before .before .within .ensures,
-      upload .before .within2 .ensures,
-      response .before .within3 .ensures,
-      c .within4 .ensures,
+      upload .before .before .between .ensures,
+      upload .before .between2 .ensures,
+      response .before .between3 .ensures,
+      c .between4 .ensures,
       limit .u64-of-usize .ensures,
       upload .u64-of-usize2 .ensures,
       response .u64-of-usize3 .ensures,

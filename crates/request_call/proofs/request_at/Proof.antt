@@ -56,18 +56,16 @@ returns c =
     let a = from .before .before .before .args in
     let g = stepped .step-request in
     let m = a .upload .now in
-    let n = a .config .upload in (
-      (λ k v t has d.
-          let is = entry-is from k v t has in
-          let p = at-place _ t _ _ _ _ (has .1 .1) in
-          let row = sweep (a .config .lifetime) (a .asked .time) (t .entries) in
-          rw (c .leave .ensures)
-          (asked-left (a .config) t m d (a .asked .time) row (a .i) (opened k row) _ (g .result .state) (g .last .1 .1 .1 .1 .0) _ (g .result .answer)
-          (rw is (changed-at _ _ _ _ _ _ t (has .1) _ (g .result))) (a .asked) (a .payload .now) refl
-          (rw (is, lent-piece m n (a .i)) at (g .ensures))
-          (lent-back m n (a .i) _ (g .kept .1 .1 .1 .1 .0 ∙ lent-length m n (a .i) (p .up))))),
-      rw (c .leave .ensures) refl,
-    )
+    let n = a .config .upload in
+    λ k v t has d.
+    let is = entry-is from k v t has in
+    let p = at-place _ t _ _ _ _ (has .1 .1) in
+    let row = sweep (a .config .lifetime) (a .asked .time) (t .entries) in
+    rw (c .leave .ensures)
+    (asked-left (a .config) t m d (a .asked .time) row (a .i) (opened k row) _ (g .result .state) (g .last .1 .1 .1 .1 .0) _ (g .result .answer)
+    (rw is (changed-at _ _ _ _ _ _ t (has .1) _ (g .result))) (a .asked) (a .payload .now) refl
+    (rw (is, lent-piece m n (a .i)) at (g .ensures))
+    (lent-back m n (a .i) _ (g .kept .1 .1 .1 .1 .0 ∙ lent-length m n (a .i) (p .up))))
 
 pub request-at-spec : {M : Type 1} → statement M
 request-at-spec =

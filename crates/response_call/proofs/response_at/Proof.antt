@@ -41,17 +41,15 @@ returns c =
     let a = from .before .before .before .before .args in
     let g = stepped .step-response in
     let m = a .response .now in
-    let n = a .config .response in (
-      (λ k u t has d.
-          let is = from .opened-entry .ensures ∙ opened-at _ _ _ _ _ _ t (has .1) _ (has .0) in
-          let p = at-place _ t _ _ _ _ (has .1 .1) in
-          let row = sweep (a .config .lifetime) (a .numbers .time) (t .entries) in
-          rw (c .leave .ensures)
-          (response-left (a .config) t d m (a .numbers .time) row (a .i) (opened k row) _ (g .result .state) (g .last .1 .1 .0) _ (g .result .answer)
-          (rw is (changed-at _ _ _ _ _ _ t (has .1) _ (g .result))) _ (rw (is, lent-piece m n (a .i)) at (g .ensures))
-          (lent-back m n (a .i) _ (g .kept .1 .1 .0 ∙ lent-length m n (a .i) (p .down))))),
-      rw (c .leave .ensures) refl,
-    )
+    let n = a .config .response in
+    λ k u t has d.
+    let is = from .opened-entry .ensures ∙ opened-at _ _ _ _ _ _ t (has .1) _ (has .0) in
+    let p = at-place _ t _ _ _ _ (has .1 .1) in
+    let row = sweep (a .config .lifetime) (a .numbers .time) (t .entries) in
+    rw (c .leave .ensures)
+    (response-left (a .config) t d m (a .numbers .time) row (a .i) (opened k row) _ (g .result .state) (g .last .1 .1 .0) _ (g .result .answer)
+    (rw is (changed-at _ _ _ _ _ _ t (has .1) _ (g .result))) _ (rw (is, lent-piece m n (a .i)) at (g .ensures))
+    (lent-back m n (a .i) _ (g .kept .1 .1 .0 ∙ lent-length m n (a .i) (p .down))))
 
 pub response-at-spec : {M : Type 1} → statement M
 response-at-spec =

@@ -2,7 +2,6 @@ use mathlib.Core.Path.{sym, _∙_}
 use Rattle.keys.proofs.Keys.{named-key}
 use Rattle.judge.proofs.Judged.{at-place, verdict-seen}
 use Rattle.call.proofs.Meanings.{call-by, response-ok, refusal}
-use Rattle.places.proofs.Sighted.{seen-below}
 use borrow.Author.Needs.{needs}
 use Rattle.response_call.proofs.response_change.Statement.{statement}
 use Rattle.response_call.proofs.response_change.Tie as tie
@@ -22,12 +21,9 @@ returns c =
     let told = c .before .before in
     let judged = told .before .before in
     let look = judged .before .before in
-    let sees = look .look .ensures _ (look .before .named .ensures) in (
-      rw (c .refused .ensures)
-          (refusal _ _ _ _ _ _ sees
-          ∙ call-by _ _ _ _ _ _ (response-ok _) _ _ (judged .judge .ensures ∙ verdict-seen _ _ _ _ _ _ sees) (told .n .given .1)),
-      rw (c .refused .ensures) (seen-below _ _ _ _ _ sees),
-    )
+    let sees = look .look .ensures _ (look .before .named .ensures) in
+    rw (c .refused .ensures)
+    (refusal _ _ _ _ _ _ sees ∙ call-by _ _ _ _ _ _ (response-ok _) _ _ (judged .judge .ensures ∙ verdict-seen _ _ _ _ _ _ sees) (told .n .given .1))
 
 returns-2 : tie.Need-returns-2
 returns-2 c =
@@ -40,10 +36,8 @@ returns-2 c =
     let sees = look .look .ensures _ name in
     let is = judged .judge .ensures ∙ verdict-seen _ _ _ _ _ _ sees in
     let placed = sym is ∙ told .i .given .1 in
-    let own = named-key _ _ name (at-place _ _ _ _ _ _ placed .named) in (
-      at .response-at .ensures .0 _ _ _ (own, (sees, placed)) (a .upload .now) ∙ call-by _ _ _ _ _ _ (response-ok _) _ _ is (told .i .given .1),
-      rw (at .response-at .ensures .1) (at-place _ _ _ _ _ _ placed .below),
-    )
+    let own = named-key _ _ name (at-place _ _ _ _ _ _ placed .named) in
+    at .response-at .ensures _ _ _ (own, (sees, placed)) (a .upload .now) ∙ call-by _ _ _ _ _ _ (response-ok _) _ _ is (told .i .given .1)
 
 pub response-change-spec : {M : Type 1} → statement M
 response-change-spec =
