@@ -37,8 +37,8 @@ Meant c w q w′ a = done w′ a ≡ call c w q
 -- ---- How the code makes a call at its place. No contract of the handler's two calls, nor of an export, cites these.
 
 -- The table seen so has place i for a call on the key of this name, stored so.
-abbrev pub Placed : Config → Sight → Key → ℕ → Lengths → ℕ → Name → Table → Type 0
-Placed c s key time n i name t = (key ≡ stored name) × HasPlace c s time name n i t
+abbrev pub PlacedAt : Config → Sight → Key → ℕ → Lengths → ℕ → Name → Table → Type 0
+PlacedAt c s key time n i name t = (key ≡ stored name) × HasPlace c s time name n i t
 
 -- A request at its place i in the swept row, where it starts from entry e, with its options read.
 abbrev pub askedAt : Config → World → List Entry → ℕ → Entry → Asked → List ℕ → Done

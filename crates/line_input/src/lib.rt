@@ -46,17 +46,19 @@ pub fn turns_left(turns: u64, held: usize, end: usize) -> u64
     turns - 1
 }
 
+fn at_most(most: usize, n: usize) -> usize
+    ensures { λ r. ⌜ r ≡ min n most ⌝ }
+{
+    if most < n { most } else { n }
+}
+
 // Moves what has not ended to the front of the buffer. More than a line can have is cut: it stays longer than any line that is read.
 pub fn keep(text: &mut [u8], from: usize, end: usize) -> usize
     requires { ⌜ (from ≤ end) × (end ≤ length (now text)) ⌝ }
     ensures { λ r. ⌜ r ≡ min (end - from) (longest + 1) ⌝ }
     ensures { λ r. ⌜ now (text .exit) ≡ patch (now (text .entry)) 0 (part (now (text .entry)) from r) ⌝ }
 {
-    if LONG < end - from {
-        moving::move_left(text, from, 0, LONG);
-        return LONG;
-    }
-    let n = end - from;
+    let n = at_most(LONG, end - from);
     moving::move_left(text, from, 0, n);
     n
 }

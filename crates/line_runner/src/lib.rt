@@ -2,13 +2,10 @@
 use replay_control::Control;
 use script_state::Step;
 use script_state::buffers;
-ghost use mathlib.Core.Path.{_≡_};
 ghost use Prim.Native.Nat.{_+_, _≤_};
 ghost use lib.ListN.{length};
 ghost use Rattle.fresh_start.specs.Leaves.{Left};
 ghost use Rattle.line_input.specs.Sizes.{longest, much};
-ghost use Rattle.answer_text.specs.Answer.{unreadableText};
-ghost use Rattle.pieces.specs.Memory.{Put};
 ghost use Rattle.script_state.specs.Sizes.{lineRoom, memorySize};
 ghost use Rattle.line_runner.specs.Line.{Lent, calledIn, shownIn, controlledIn, lineIn};
 
@@ -76,18 +73,6 @@ fn run_control(
     }
 }
 
-// A line that is longer than any that is read.
-fn too_long(step: Step, out: &mut [u8]) -> Step
-    requires { ⌜ step .at + lineRoom ≤ length (now out) ⌝ }
-    ensures { λ r. ⌜ r .state ≡ step .state ⌝ }
-    ensures { λ r. ⌜ Put (now (out .entry)) (step .at) (unreadableText (step .state .number)) (now (out .exit)) (r .at) ⌝ }
-    ensures { λ r. ⌜ r .at ≤ step .at + lineRoom ⌝ }
-{
-    let state = step.state;
-    let at = answer_text::put_unreadable(out, step.at, state.number);
-    Step { state, at }
-}
-
 // A line without its end; its number is counted already.
 pub fn run_any(
     replay: bool,
@@ -103,7 +88,7 @@ pub fn run_any(
     ensures { λ r. ⌜ Left (lineIn replay (now (line .entry))) step (now (upload .entry)) (now (response .entry)) (now (out .entry)) r (now (upload .exit)) (now (response .exit)) (now (out .exit)) ⌝ }
 {
     if line_input::LONGEST < line.len() {
-        return too_long(step, out);
+        return script_call::unread(step, out);
     }
     if replay {
         return run_control(step, line, upload, response, scratch, out);

@@ -18,7 +18,7 @@ ghost use Rattle.keys.specs.Keys.{Name};
 ghost use Rattle.judge.specs.Verdict.{lengths};
 ghost use Rattle.table_change.specs.Change.{changed};
 ghost use Rattle.call.specs.Call.{done};
-ghost use Rattle.call.specs.Contract.{world, requestCall, Meant, Placed, askedAt};
+ghost use Rattle.call.specs.Contract.{world, requestCall, Meant, PlacedAt, askedAt};
 
 // A request at its place: the step on entry i and on its piece.
 fn request_at(
@@ -30,9 +30,9 @@ fn request_at(
     asked: Asked,
     payload: &[u8],
 ) -> Change
-    requires { ⌜ ((k : Name) × (v : ℕ) × (t : Table) × Placed config sight key (asked .time) (lengths (length (now upload)) v (asked .bare) (length (now payload)) 0) i k t) ⌝ }
+    requires { ⌜ ((k : Name) × (v : ℕ) × (t : Table) × PlacedAt config sight key (asked .time) (lengths (length (now upload)) v (asked .bare) (length (now payload)) 0) i k t) ⌝ }
     ensures { λ r. ⌜ ((k : Name) (v : ℕ) (t : Table)
-        → Placed config sight key (asked .time) (lengths (length (now (upload .entry))) v (asked .bare) (length (now (payload .entry))) 0) i k t → (d : List ℕ)
+        → PlacedAt config sight key (asked .time) (lengths (length (now (upload .entry))) v (asked .bare) (length (now (payload .entry))) 0) i k t → (d : List ℕ)
         → done (world (changed (config .lifetime) (asked .time) t r) (now (upload .exit)) d) (r .answer)
         ≡ askedAt config (world t (now (upload .entry)) d) (sweep (config .lifetime) (asked .time) (t .entries)) i
         (opened k (sweep (config .lifetime) (asked .time) (t .entries))) asked (now (payload .entry))) ⌝ }

@@ -19,7 +19,7 @@ ghost use Rattle.keys.specs.Keys.{Name};
 ghost use Rattle.judge.specs.Verdict.{lengths};
 ghost use Rattle.table_change.specs.Change.{changed};
 ghost use Rattle.call.specs.Call.{done, callAt};
-ghost use Rattle.call.specs.Contract.{world, responseCall, Meant, Placed};
+ghost use Rattle.call.specs.Contract.{world, responseCall, Meant, PlacedAt};
 
 // A response at its place.
 fn response_at<'a>(
@@ -32,9 +32,9 @@ fn response_at<'a>(
     head: &'a [u8],
     payload: &'a [u8],
 ) -> Change
-    requires { ⌜ ((k : Name) × (u : ℕ) × (t : Table) × Placed config sight key (numbers .time) (lengths u (length (now response)) (numbers .bare) (length (now payload)) (length (now head))) i k t) ⌝ }
+    requires { ⌜ ((k : Name) × (u : ℕ) × (t : Table) × PlacedAt config sight key (numbers .time) (lengths u (length (now response)) (numbers .bare) (length (now payload)) (length (now head))) i k t) ⌝ }
     ensures { λ r. ⌜ ((k : Name) (u : ℕ) (t : Table)
-        → Placed config sight key (numbers .time)
+        → PlacedAt config sight key (numbers .time)
         (lengths u (length (now (response .entry))) (numbers .bare) (length (now (payload .entry))) (length (now (head .entry)))) i k t → (m : List ℕ)
         → done (world (changed (config .lifetime) (numbers .time) t r) m (now (response .exit))) (r .answer)
         ≡ callAt config (world t m (now (response .entry))) (numbers .time) (sweep (config .lifetime) (numbers .time) (t .entries)) i

@@ -89,6 +89,13 @@ pub fn run_script(
     let first = script_state::start(out);
     let rest = run_lines(false, first, text, upload, response, scratch, out);
     let from = rest.from;
-    let step = rest.step;
-    run_last(false, step, &text[from..], upload, response, scratch, out)
+    run_last(
+        false,
+        rest.step,
+        &text[from..],
+        upload,
+        response,
+        scratch,
+        out,
+    )
 }

@@ -1,15 +1,16 @@
--- A call that is done and printed; and a run by another name of the line. Assumes nothing.
+-- A call that is done and printed, or a line that cannot be read; and a run by another name of the line. Assumes nothing.
 use mathlib.Core.Path.{_≡_, refl, sym, ap, _∙_}
 use mathlib.Core.List.{List}
 use Prim.Native.Nat.{ℕ, _+_, _≤_}
 use lib.ListN.{take}
 use Rattle.pieces.specs.Memory.{Put}
 use Rattle.pieces.proofs.Puts.{put-as}
+use Rattle.answer_text.specs.Answer.{unreadableText}
 use Rattle.block_state.specs.declared.Answer.{Answer}
 use Rattle.block_table.specs.declared.Table.{Table}
 use Rattle.call.specs.Call.{World, Call, Done, done, call}
 use Rattle.call.specs.Contract.{world, requestCall, responseCall, Meant}
-use Rattle.script.specs.Line.{Said}
+use Rattle.script.specs.Line.{Said, unreadable}
 use Rattle.script.specs.declared.Request.{Request}
 use Rattle.script.specs.declared.Response.{Response}
 use Rattle.script_cut.specs.Cut.{between}
@@ -20,6 +21,16 @@ use Rattle.script_call.specs.Run.{answered, printed, asked, replied, req
 
 pub runs-as : {s : Step} {w : World} {q q′ : Said} {m : List ℕ} {z : Step} {w′ : World} {m′ : List ℕ} → Runs s w q m z w′ m′ → q ≡ q′ → Runs s w q′ m z w′ m′
 runs-as h e = rw (← e) h
+
+pub runs-unread : {s z : Step} {m m′ up away : List ℕ} → z .state ≡ s .state → Put m (s .at) (unreadableText (s .state .number)) m′ (z .at) → z .at ≤ s .at + lineRoom
+    → Runs s (world (s .state .table) up away) unreadable m z (world (z .state .table) up away) m′
+runs-unread {s} {up = up} {away} e text room =
+    record {
+      state = e ∙ ap (λ (x : State). withTable (s .state) (x .table)) (sym e);
+      world = ap (λ (x : State). world (x .table) up away) e;
+      text = text;
+      room = room;
+    }
 
 runs-done : {s z : Step} {w : World} {q : Said} {m m′ up away : List ℕ} {t : Table} {a : Answer} (payload : List ℕ) (d : Done)
     → d .world ≡ worldAfter (s .state .config) w q → printed (s .state .number) d payload ≡ textAfter (s .state .config) w (s .state .number) q

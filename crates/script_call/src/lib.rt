@@ -11,6 +11,7 @@ ghost use mathlib.Core.Path.{_≡_};
 ghost use Prim.Native.Nat.{_+_, _*_, _≤_};
 ghost use lib.ListN.{length};
 ghost use Rattle.pieces.specs.Memory.{Put};
+ghost use Rattle.answer_text.specs.Answer.{unreadableText};
 ghost use Rattle.script.specs.Line.{InBuffer, lineOf};
 ghost use Rattle.script_call.specs.Run.{withTable, answered, asked, replied, Ran};
 ghost use Rattle.script_state.specs.Sizes.{memorySize, lineRoom};
@@ -117,7 +118,19 @@ fn reply<'a>(
     print(step, outcome, &scratch[k..p], upload, response, out)
 }
 
-// One line: read, called, printed. A line that cannot be read changes nothing.
+// A line that cannot be read changes nothing.
+pub fn unread(step: Step, out: &mut [u8]) -> Step
+    requires { ⌜ step .at + lineRoom ≤ length (now out) ⌝ }
+    ensures { λ z. ⌜ z .state ≡ step .state ⌝ }
+    ensures { λ z. ⌜ Put (now (out .entry)) (step .at) (unreadableText (step .state .number)) (now (out .exit)) (z .at) ⌝ }
+    ensures { λ z. ⌜ z .at ≤ step .at + lineRoom ⌝ }
+{
+    let state = step.state;
+    let at = answer_text::put_unreadable(out, step.at, state.number);
+    Step { state, at }
+}
+
+// One line: read, called, printed.
 pub fn run_line(
     step: Step,
     line: &[u8],
@@ -133,10 +146,6 @@ pub fn run_line(
     match script::read_line(line, scratch) {
         Line::Request(r) => ask(step, r, upload, response, scratch, out),
         Line::Response(r) => reply(step, r, upload, response, scratch, out),
-        Line::Unreadable => {
-            let state = step.state;
-            let at = answer_text::put_unreadable(out, step.at, state.number);
-            Step { state, at }
-        }
+        Line::Unreadable => unread(step, out),
     }
 }

@@ -38,10 +38,7 @@ pub fn number_field(text: &[u8]) -> Number
             return Number::Bad;
         }
         let d = wide::u64_of_u8(x) - 48;
-        if 1844674407370955161 < sum {
-            return Number::Bad;
-        }
-        if 18446744073709551615 - d < sum * 10 {
+        if (18446744073709551615 - d) / 10 < sum {
             return Number::Bad;
         }
         sum = sum * 10 + d;

@@ -77,10 +77,9 @@ fn put_block(out: &mut [u8], at: usize, block: BlockValue) -> usize
     ensures { λ r. ⌜ Put (now (out .entry)) at (blockText block) (now (out .exit)) r ⌝ }
     ensures { λ r. ⌜ r ≤ at + 50 ⌝ }
 {
+    let more = [b'/', digit_of(block.more), b'/'];
     let k = put_decimal(out, at, block.num as u64);
-    let k = pieces::put_byte(out, k, b'/');
-    let k = pieces::put_byte(out, k, digit_of(block.more));
-    let k = pieces::put_byte(out, k, b'/');
+    let k = pieces::put(out, k, &more);
     put_decimal(out, k, block_value::size(block) as u64)
 }
 

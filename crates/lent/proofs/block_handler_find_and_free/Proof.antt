@@ -24,9 +24,9 @@ use ghost.Atoms.{Atoms}
 use contract.Monad.{Fun}
 use contract.Running.{givenOf, tables, tablesOf}
 use types.Kit.{Given, Item, ‵, _⊛_, ⋆, Sq, runs, anyQ, atRet, _$_, _∵_, !, qed, by, move, keep, drop, split, join, rewrite, fsplit, fjoin, suffices, frame, done}
-use types.Run.{look, look-raw, init, store, store-raw, forget, stop, hop, fld, from, load, lit, of-opd, bin, and-then, no-more, assigns, assigns-last}
+use types.Run.{look, look-raw, init, store, store-raw, forget, stop, hop, from, load, lit, of-opd, bin, and-then, no-more, assigns, assigns-last}
 use types.Run.{land, first, blocks, stays, leaves-loop, exec, Below, again, loops, returns, enter, alloc1, alloc0, params1, pass1, pass0, free1, free0}
-use types.Part.{agg, whole, sub, look-in}
+use types.Part.{agg}
 use sound.WpLaws.{fmOf, WpFn-mono}
 use denote.RattleType.{owns}
 use denote.Shadow.{pureI}
@@ -59,7 +59,7 @@ use Rattle.lent.specs.Row.{seenNext}
 use Rattle.lent.proofs.Seen as Q
 use Rattle.lent.proofs.Seen.Laws as Q′
 use Rattle.lent.proofs.Sweeps.{one-more, upto, upto-length, upto-next, upto-all, upto-at, map-length, seenOf, seen-next, seen-all, bytes-fit}
-use Rattle.walks.proofs.Locals.{also, gone}
+use Rattle.walks.proofs.Locals.{also, field-of, pointer-in, length-in, gone}
 use Rattle.lent.proofs.Turns.{Swept, See, Key, sight, sweeps, sees}
 use Rattle.entries.proofs.swept_entry.Symbol as swept-def
 use Rattle.entries.proofs.swept_entry.Symbol.{name as #swept}
@@ -184,13 +184,13 @@ module _ {M : Type 1} (𝓤 : URA M) (H : Heap 𝓤) (A : Atoms 𝓤) (W : Given
     turn-by : (i : State) (z : Bool) → ltb (i .0) n ≡ z → Sq W (At i) (runs C Λ En body.turn-1 (anyQ (Turned i)))
     unfolding afterTurn
     turn-by i true e =
-        assigns ! (of-opd ! (load ! (from ! (fld ! refl (stop !))) (look-in ! 30 (sub ! 1 refl (whole !))))) (from ! (stop !)) (init ! 14 refl (tt, record { fits = room .0 })) $
+        assigns ! (of-opd ! (length-in ! 30 (b, o) n refl refl)) (from ! (stop !)) (init ! 14 refl (tt, record { fits = room .0 })) $
         assigns ! (bin ! (load ! (from ! (stop !)) (look ! 20 refl)) (load ! (from ! (stop !)) (look ! 14 refl)) tt) (from ! (stop !)) (init ! 12 refl (tt, tt)) $
         rewrite ! 12 (λ (y : Bool). ‵ (fat fullShare tyBool l₁₀ 0 (vbool y))) e refl $ stays ! (load ! (from ! (stop !)) (look ! 12 refl)) $
         -- the entry is taken out of the row, and swept
         assigns ! (bin ! (load ! (from ! (stop !)) (look ! 20 refl)) (lit ! tt) (record { fits = bytes-fit (room .1) less })) (from ! (stop !))
         (store ! 14 refl (tt, record { fits = bytes-fit (room .1) less })) $
-        assigns ! (bin ! (load ! (from ! (fld ! refl (stop !))) (look-in ! 30 (sub ! 0 refl (whole !)))) (load ! (from ! (stop !)) (look ! 14 refl)) tt) (from ! (stop !)) (init ! 10 refl (tt, tt)) $
+        assigns ! (bin ! (pointer-in ! 30 (b, o) n refl refl) (load ! (from ! (stop !)) (look ! 14 refl)) tt) (from ! (stop !)) (init ! 10 refl (tt, tt)) $
         rewrite ! 10 (λ (p : ℕ). ‵ (fat fullShare tyPtr l₁₁ 0 (vptr b p))) (sym (place-is 104 o (i .0))) refl $
         elem-out ! T.the-row (Is T.the-row) (shows 𝓤 H A T.the-row) (LL.vals T.the-type T′.the-laws) (LL.tells T.the-type T′.the-laws) fullShare (done-to (i .0)) (i .0) nil b o within (λ was.
         assigns ! (of-opd ! (load ! (from ! (hop ! (look ! 12 refl) (stop !))) (look-raw ! 0 refl))) (from ! (stop !)) (init ! 10 refl (LL.lawful T.the-type T′.the-laws 𝓤 H A W .typed h _ was .0)) $
@@ -199,7 +199,7 @@ module _ {M : Type 1} (𝓤 : URA M) (H : Heap 𝓤) (A : Atoms 𝓤) (W : Given
         -- it is stored, and put back
         assigns ! (bin ! (load ! (from ! (stop !)) (look ! 22 refl)) (lit ! tt) (record { fits = bytes-fit (room .1) less })) (from ! (stop !))
         (store ! 16 refl (tt, record { fits = bytes-fit (room .1) less })) $
-        assigns ! (bin ! (load ! (from ! (fld ! refl (stop !))) (look-in ! 32 (sub ! 0 refl (whole !)))) (load ! (from ! (stop !)) (look ! 16 refl)) tt) (from ! (stop !)) (init ! 8 refl (tt, tt)) $
+        assigns ! (bin ! (pointer-in ! 32 (b, o) n refl refl) (load ! (from ! (stop !)) (look ! 16 refl)) tt) (from ! (stop !)) (init ! 8 refl (tt, tt)) $
         rewrite ! 8 (λ (p : ℕ). ‵ (fat fullShare tyPtr l₁₃ 0 (vptr b p))) (sym (place-is 104 o (i .0))) refl $
         assigns ! (of-opd ! (load ! (from ! (stop !)) (look ! 20 refl))) (from ! (hop ! (look ! 8 refl) (stop !))) (store-raw ! 1 refl (LL.lawful T.the-type T′.the-laws 𝓤 H A W .typed r _ is .0)) $
         move ! (1 ∷ 0 ∷ []) $ elem-put ! T.the-row fullShare (done-to (i .0)) (i .0) r (v ∷ []) b o within $
@@ -231,10 +231,10 @@ module _ {M : Type 1} (𝓤 : URA M) (H : Heap 𝓤) (A : Atoms 𝓤) (W : Given
             ∙ ap (λ (z : Seen). seenNext z (i .0) (i .0 + 1) (getD ys (i .0) nil) (k .now)) (i .1 .1 .1 .1)
             ∙ seen-next (k .now) (i .0) ys nil (subst (λ (m : ℕ). i .0 < m) (sym (map-length (swept u t) xs)) less)
     turn-by i false e =
-        assigns ! (of-opd ! (load ! (from ! (fld ! refl (stop !))) (look-in ! 30 (sub ! 1 refl (whole !))))) (from ! (stop !)) (init ! 14 refl (tt, record { fits = room .0 })) $
+        assigns ! (of-opd ! (length-in ! 30 (b, o) n refl refl)) (from ! (stop !)) (init ! 14 refl (tt, record { fits = room .0 })) $
         assigns ! (bin ! (load ! (from ! (stop !)) (look ! 20 refl)) (load ! (from ! (stop !)) (look ! 14 refl)) tt) (from ! (stop !)) (init ! 12 refl (tt, tt)) $
         rewrite ! 12 (λ (y : Bool). ‵ (fat fullShare tyBool l₁₀ 0 (vbool y))) e refl $ leaves-loop ! (load ! (from ! (stop !)) (look ! 12 refl)) $ exec ! C Λ En body.t-4 (atRet En Post) $
-        assigns ! (of-opd ! (load ! (from ! (fld ! refl (stop !))) (look-in ! 22 (sub ! 2 refl (whole !))))) (from ! (stop !))
+        assigns ! (of-opd ! (field-of ! 22 2 Q.the-type Q′.the-laws (i .1 .0) {τ = word} {d = 16} refl refl refl)) (from ! (stop !))
         (init ! 32 refl (tt, record { fits = place-fits (i .1 .0) (i .1 .1 .1 .0) })) $
         closes-slice ! tt T.the-row xs (done-to (i .0)) (upto-length (swept u t) (i .0) xs) b o $
         returns ! (look ! 31 refl) $ gone ! 31 refl refl $ gone ! 29 refl refl $ gone ! 27 refl refl $ gone ! 25 refl refl $ gone ! 23 refl refl $ gone ! 21 refl refl $ gone ! 19 refl refl $

@@ -17,8 +17,8 @@ use contract.Lifetimes.{Lfts, Shares}
 use contract.Monad.{Fun}
 use contract.Running.{givenOf, tables, tablesOf}
 use types.Kit.{Given, Item, ‵, raw, _⊛_, _$_, _∵_, !, qed, move, drop, use1, join, fsplit, fjoin, done}
-use types.Run.{look, look-raw, init, store-raw, stop, hop, fld, from, load, addr, of-opd, and-then, no-more, assigns, land}
-use types.Part.{agg, whole, sub, look-in}
+use types.Run.{look, look-raw, init, store-raw, stop, hop, from, load, of-opd, and-then, no-more, assigns, land}
+use types.Part.{agg}
 use sound.WpLaws.{FmC, fmOf}
 use denote.RattleType.{owns, flat}
 use denote.Laws.{all-typed}
@@ -40,7 +40,7 @@ use Rattle.config.proofs.Config.Laws as K′
 use Rattle.replies.proofs.Reply as S
 use Rattle.replies.proofs.Reply.Laws as S′
 use Rattle.walks.proofs.Told.{Tolds, written, laws, Told-of, borrowed, number, structure, lent-bytes, bytes, Met, meets}
-use Rattle.walks.proofs.Locals.{also}
+use Rattle.walks.proofs.Locals.{also, field-of, points-at, length-in}
 use Rattle.walks.proofs.Borrowed.{comes-back, goes-in, starts, closes-last, returned}
 use Rattle.lent_steps.specs.declared.Outcome.{Outcome}
 use Rattle.lent_steps.proofs.Outcome as O
@@ -91,8 +91,8 @@ module _ {M : Type 1} (𝓤 : URA M) (H : Heap 𝓤) (A : Atoms 𝓤) (W : Given
           -- the entry is copied out, and the piece is lent on
           assigns ! (of-opd ! (load ! (from ! (hop ! (look ! 8 refl) (stop !))) (look-raw ! 0 refl))) (from ! (stop !))
           (init ! 26 refl (LL.lawful T.the-type T′.the-laws 𝓤 H A W .typed (a .0 .now) _ was .0)) $
-          assigns ! (addr ! (from ! (fld ! refl (hop ! (look-in ! 16 (sub ! 0 refl (whole !))) (stop !))))) (from ! (stop !)) (init ! 30 refl (tt, tt)) $
-          assigns ! (agg ! (also ! 30 refl (and-then ! (load ! (from ! (fld ! refl (stop !))) (look-in ! 16 (sub ! 1 refl (whole !)))) (no-more !)))) (from ! (stop !))
+          assigns ! (points-at ! 16 (piece .ptr) (length (piece .now)) refl refl) (from ! (stop !)) (init ! 30 refl (tt, tt)) $
+          assigns ! (agg ! (also ! 30 refl (and-then ! (length-in ! 16 (piece .ptr) (length (piece .now)) refl refl) (no-more !)))) (from ! (stop !))
           (init ! 32 refl (tt, (tt, (record { fits = are .1 .1 .1 .1 .0 .0 .1 .0 }, tt)))) $
           -- the call
           move ! (4 ∷ 5 ∷ []) $ join ! $ use1 W (raw (Callee .pre to)) (goes-in T.the-type T′.the-laws T′.the-plain W Toks Rest (a .0 .now) was) $
@@ -101,9 +101,9 @@ module _ {M : Type 1} (𝓤 : URA M) (H : Heap 𝓤) (A : Atoms 𝓤) (W : Given
           comes-back O.the-type O′.the-laws ! v Toks (ensured 𝓤 H A g.ended (g.clauses 𝓤 H A at-mem run) (κs .1) (to .0 .3) tt) (id⊢ 𝓤 _) (λ r is.
           land ! (from ! (stop !)) (init ! 28 refl (LL.lawful O.the-type O′.the-laws 𝓤 H A W .typed r _ is .0)) $
           -- the entry is stored, and the numbers are returned
-          assigns ! (of-opd ! (load ! (from ! (fld ! {τ = T′.mir} {d = 0} refl (stop !))) (look-in ! 28 (sub ! 0 {τ = T′.mir} {d = 0} refl (whole !)))))
+          assigns ! (of-opd ! (field-of ! 28 0 O.the-type O′.the-laws r {τ = T′.mir} {d = 0} refl refl refl))
           (from ! (hop ! (look ! 8 refl) (stop !))) (store-raw ! 2 refl (LL.lawful T.the-type T′.the-laws 𝓤 H A W .typed (r .entry) _ (parts r is .0) .0)) $
-          assigns ! (of-opd ! (load ! (from ! (fld ! {τ = S′.mir} {d = 104} refl (stop !))) (look-in ! 28 (sub ! 1 {τ = S′.mir} {d = 104} refl (whole !)))))
+          assigns ! (of-opd ! (field-of ! 28 1 O.the-type O′.the-laws r {τ = S′.mir} {d = 104} refl refl refl))
           (from ! (stop !)) (init ! 6 refl (LL.lawful S.the-type S′.the-laws 𝓤 H A W .typed (r .reply) _ (parts r is .1) .0)) $
           move ! (2 ∷ 3 ∷ 4 ∷ 5 ∷ []) $ closes-last T.the-type T′.the-laws T′.the-plain (a .0 .ptr .0) (a .0 .ptr .1) ! tt (r .entry) (parts r is .0) $
           returned T.the-type T′.the-laws T′.the-plain ! f.ended g.ended (f.clauses 𝓤 H A at-mem run) (g.clauses 𝓤 H A at-mem run) ((κs, qs, tt, a, at), tt) to

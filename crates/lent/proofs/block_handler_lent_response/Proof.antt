@@ -17,8 +17,8 @@ use contract.Lifetimes.{Lfts, Shares}
 use contract.Monad.{Fun}
 use contract.Running.{givenOf, tables, tablesOf}
 use types.Kit.{Given, Item, ‵, raw, _⊛_, _$_, _∵_, !, qed, move, drop, use1, join, fsplit, fjoin, done}
-use types.Run.{look, look-raw, init, store-raw, stop, hop, fld, from, load, addr, of-opd, and-then, no-more, assigns, land}
-use types.Part.{agg, whole, sub, look-in}
+use types.Run.{look, look-raw, init, store-raw, stop, hop, from, load, of-opd, and-then, no-more, assigns, land}
+use types.Part.{agg}
 use sound.WpLaws.{FmC, fmOf}
 use denote.RattleType.{owns, flat}
 use denote.Laws.{all-typed}
@@ -40,7 +40,7 @@ use Rattle.config.proofs.Config.Laws as K′
 use Rattle.replies.proofs.Reply as S
 use Rattle.replies.proofs.Reply.Laws as S′
 use Rattle.walks.proofs.Told.{Tolds, written, laws, Told-of, borrowed, structure, lent-bytes, bytes, Met, meets}
-use Rattle.walks.proofs.Locals.{also}
+use Rattle.walks.proofs.Locals.{also, field-of, points-at, length-in}
 use Rattle.walks.proofs.Borrowed.{comes-back, goes-in, starts, closes-last, returned}
 use Rattle.lent_steps.specs.declared.Outcome.{Outcome}
 use Rattle.lent_steps.proofs.Outcome as O
@@ -90,8 +90,8 @@ module _ {M : Type 1} (𝓤 : URA M) (H : Heap 𝓤) (A : Atoms 𝓤) (W : Given
           -- the entry is copied out, and the piece is lent on
           assigns ! (of-opd ! (load ! (from ! (hop ! (look ! 8 refl) (stop !))) (look-raw ! 0 refl))) (from ! (stop !))
           (init ! 20 refl (LL.lawful T.the-type T′.the-laws 𝓤 H A W .typed (a .0 .now) _ was .0)) $
-          assigns ! (addr ! (from ! (fld ! refl (hop ! (look-in ! 12 (sub ! 0 refl (whole !))) (stop !))))) (from ! (stop !)) (init ! 24 refl (tt, tt)) $
-          assigns ! (agg ! (also ! 24 refl (and-then ! (load ! (from ! (fld ! refl (stop !))) (look-in ! 12 (sub ! 1 refl (whole !)))) (no-more !)))) (from ! (stop !))
+          assigns ! (points-at ! 12 (piece .ptr) (length (piece .now)) refl refl) (from ! (stop !)) (init ! 24 refl (tt, tt)) $
+          assigns ! (agg ! (also ! 24 refl (and-then ! (length-in ! 12 (piece .ptr) (length (piece .now)) refl refl) (no-more !)))) (from ! (stop !))
           (init ! 26 refl (tt, (tt, (record { fits = are .1 .1 .0 .0 .1 .0 }, tt)))) $
           -- the call
           move ! (4 ∷ 5 ∷ []) $ join ! $ use1 W (raw (Callee .pre to)) (goes-in T.the-type T′.the-laws T′.the-plain W Toks Rest (a .0 .now) was) $
@@ -99,9 +99,9 @@ module _ {M : Type 1} (𝓤 : URA M) (H : Heap 𝓤) (A : Atoms 𝓤) (W : Given
           comes-back O.the-type O′.the-laws ! v Toks (ensured 𝓤 H A g.ended (g.clauses 𝓤 H A at-mem run) (κs .1) (to .0 .3) tt) (id⊢ 𝓤 _) (λ r is.
           land ! (from ! (stop !)) (init ! 22 refl (LL.lawful O.the-type O′.the-laws 𝓤 H A W .typed r _ is .0)) $
           -- the entry is stored, and the numbers are returned
-          assigns ! (of-opd ! (load ! (from ! (fld ! {τ = T′.mir} {d = 0} refl (stop !))) (look-in ! 22 (sub ! 0 {τ = T′.mir} {d = 0} refl (whole !)))))
+          assigns ! (of-opd ! (field-of ! 22 0 O.the-type O′.the-laws r {τ = T′.mir} {d = 0} refl refl refl))
           (from ! (hop ! (look ! 8 refl) (stop !))) (store-raw ! 2 refl (LL.lawful T.the-type T′.the-laws 𝓤 H A W .typed (r .entry) _ (parts r is .0) .0)) $
-          assigns ! (of-opd ! (load ! (from ! (fld ! {τ = S′.mir} {d = 104} refl (stop !))) (look-in ! 22 (sub ! 1 {τ = S′.mir} {d = 104} refl (whole !)))))
+          assigns ! (of-opd ! (field-of ! 22 1 O.the-type O′.the-laws r {τ = S′.mir} {d = 104} refl refl refl))
           (from ! (stop !)) (init ! 6 refl (LL.lawful S.the-type S′.the-laws 𝓤 H A W .typed (r .reply) _ (parts r is .1) .0)) $
           move ! (2 ∷ 3 ∷ 4 ∷ 5 ∷ []) $ closes-last T.the-type T′.the-laws T′.the-plain (a .0 .ptr .0) (a .0 .ptr .1) ! tt (r .entry) (parts r is .0) $
           returned T.the-type T′.the-laws T′.the-plain ! f.ended g.ended (f.clauses 𝓤 H A at-mem run) (g.clauses 𝓤 H A at-mem run) ((κs, qs, tt, a, at), tt) to

@@ -8,7 +8,7 @@ use Rattle.places.specs.Places.{opened}
 use Rattle.keys.specs.Keys.{Name}
 use Rattle.judge.specs.Verdict.{lengths}
 use Rattle.judge.proofs.Judged.{AtPlace, at-place}
-use Rattle.call.specs.Contract.{Placed}
+use Rattle.call.specs.Contract.{PlacedAt}
 use Rattle.call.proofs.Meanings.{opened-at, changed-at, lent-piece, lent-length, lent-back, asked-left}
 use borrow.Author.Needs.{needs}
 use Rattle.request_call.proofs.request_at.Statement.{statement}
@@ -21,7 +21,7 @@ placed c = at-place _ _ _ _ _ _ (c .pre .3 .1 .1)
 
 -- the entry that the step starts from
 entry-is : (c : tie.After-opened-entry) → let a = c .before .before .before .args in (k : Name) (v : ℕ) (t : Table)
-    → Placed (a .config) (a .sight) (a .key) (a .asked .time) (lengths (length (a .upload .now)) v (a .asked .bare) (length (a .payload .now)) 0) (a .i) k t
+    → PlacedAt (a .config) (a .sight) (a .key) (a .asked .time) (lengths (length (a .upload .now)) v (a .asked .bare) (length (a .payload .now)) 0) (a .i) k t
     → c .opened-entry .result ≡ opened k (sweep (a .config .lifetime) (a .asked .time) (t .entries))
 entry-is c k v t has = c .opened-entry .ensures ∙ opened-at _ _ _ _ _ _ t (has .1) _ (has .0)
 

@@ -1,8 +1,8 @@
-use mathlib.Core.Path.{refl, sym, ap, _∙_}
+use mathlib.Core.Path.{sym, ap, _∙_}
 use native.Mathlib.Omega.{arith}
 use Rattle.script.specs.Line.{saidBy}
 use Rattle.script.specs.declared.Line.{Line}
-use Rattle.script_call.proofs.Running.{runs-as}
+use Rattle.script_call.proofs.Running.{runs-as, runs-unread}
 use borrow.Author.Needs.{needs}
 use Rattle.script_call.proofs.run_line.Statement.{statement}
 use Rattle.script_call.proofs.run_line.Tie as tie
@@ -35,10 +35,10 @@ returns-2 c =
 
 returns-3 : tie.Need-returns-3
 returns-3 c =
-    let put = c .before .before .put-unreadable .ensures in
-    let told = c .before .before .before .before .before in
+    let printed = c .before .before in
+    let told = printed .before .before in
     let read = told .before .before .before .before in
-    runs-as (record { state = refl; world = refl; text = put .0; room = omega (arith, put .1) })
+    runs-as (runs-unread (printed .unread .ensures .0) (printed .unread .ensures .1 .0) (printed .unread .ensures .1 .1))
     (sym (ap (λ (l : Line). saidBy l (read .read-line .last .1 .0)) (told .enum-told .given .1)) ∙ read .read-line .ensures .0)
 
 pub run-line-spec : {M : Type 1} → statement M

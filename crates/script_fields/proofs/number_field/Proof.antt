@@ -30,23 +30,19 @@ sub-d c = omega (arith, digit-range _ (sym (c .before .before .is-digit .ensures
 returns-3 : tie.Need-returns-3 Inv-loop μ-loop
 returns-3 c = sym (too-large _ _ _ (c .before .before .before .before .before .before .loop .inv) (c .before .before .before .before .before .loop-test .taken) (omega arith))
 
-returns-4 : tie.Need-returns-4 Inv-loop μ-loop
-returns-4 c = sym (too-large _ _ _ (c .before .before .before .before .before .before .before .loop .inv) (c .before .before .before .before .before .before .loop-test .taken) (omega arith))
-
 loop-again : tie.Need-loop-again Inv-loop μ-loop
 loop-again c =
-    let tested = c .before .before .before .before in
+    let tested = c .before .before .before in
     let loop = tested .before .before .before in
-    upto-turn _ _ _ _ (loop .loop .inv) (tested .before .before .loop-test .taken) (sym (tested .is-digit .ensures) ∙ not-false _ (c .before .before .before .if2 .left))
+    upto-turn _ _ _ _ (loop .loop .inv) (tested .before .before .loop-test .taken) (sym (tested .is-digit .ensures) ∙ not-false _ (c .before .before .if2 .left))
     (omega arith) (omega arith)
 
-returns-5 : tie.Need-returns-5 Inv-loop μ-loop
-returns-5 c = sym (upto-done _ _ _ (c .before .loop .inv) (c .loop-test .left) (c .before .before .if1 .left))
+returns-4 : tie.Need-returns-4 Inv-loop μ-loop
+returns-4 c = sym (upto-done _ _ _ (c .before .loop .inv) (c .loop-test .left) (c .before .before .if1 .left))
 
 pub number-field-spec : {M : Type 1} → statement M
 number-field-spec =
     tie.close
     (tie.spec
-    Inv-loop μ-loop returns loop-holds (λ c. search needs) (λ c κs. search needs) returns-2 (λ c κs. search needs) sub-d returns-3
-    (λ c. search needs) (λ c. search needs) returns-4 (λ c. search needs) (λ c. search needs) (λ c. search needs) (λ c. search needs) loop-again
-    returns-5)
+    Inv-loop μ-loop returns loop-holds (λ c. search needs) (λ c κs. search needs) returns-2 (λ c κs. search needs) sub-d (λ c. search needs)
+    returns-3 (λ c. search needs) (λ c. search needs) (λ c. search needs) (λ c. search needs) loop-again returns-4)

@@ -10,17 +10,16 @@ returns : tie.Need-returns
 unfolding blockText
 returns c =
     let size = c .before .before in
-    let slash = size .before .before .before .before .before in
-    let more = slash .before .before .before .before in
-    let first-slash = more .before .before .before .before .before in
-    let num = first-slash .before .before .before .before in
-    let after-num = put-then (first-slash .put-byte .ensures) (put-then (more .put-byte2 .ensures) (put-then (slash .put-byte3 .ensures) (size .put-decimal2 .ensures .0))) in
-    let p = put-as (put-then (num .put-decimal .ensures .0) after-num) (block-written _ _ _ (more .before .digit-of .ensures) (size .before .size .ensures)) in
+    let more = size .before .before .before .before .before in
+    let num = more .before .before .before .before .before in
+    let digit = num .before .before .before in
+    let put = put-then (num .put-decimal .ensures .0) (put-then (more .put .ensures) (size .put-decimal2 .ensures .0)) in
+    let p = put-as put (block-written _ _ _ (digit .digit-of .ensures) (size .before .size .ensures)) in
     (p, omega (arith, put-bound 43 p (block-length _)))
 
 pub put-block-spec : {M : Type 1} → statement M
 put-block-spec =
     tie.close
     (tie.spec
-    (λ c. search needs) (λ c κs. search needs) (λ c κs. search needs) (λ c κs. search needs) (λ c κs. search needs) (λ c κs. search needs)
-    (λ c κs. search needs) (λ c κs. search needs) (λ c. search needs) returns)
+    (λ c κs. search needs) (λ c. search needs) (λ c κs. search needs) (λ c. search needs) (λ c κs. search needs) (λ c κs. search needs)
+    (λ c κs. search needs) (λ c. search needs) returns)

@@ -7,7 +7,7 @@ use Rattle.runner.proofs.lines.run_script.Tie as tie
 
 run-last-requires : tie.Need-run-last-requires
 run-last-requires c κs =
-    let ran = c .before .before .before .before .before .before .before .before .before .before .before .before .before .before in
+    let ran = c .before .before .before .before .before .before .before .before .before .before .before .before .before in
     let begun = ran .before .before .before .before .before .before .before in
     let lent = begun .before .before .before .before .before .before .before .pre in
     let kept = ran .run-lines .kept in (
@@ -23,13 +23,13 @@ run-last-requires c κs =
 same-length-4 : tie.Need-same-length-4
 same-length-4 c =
     let last = c .before .before .before .before .before .before .before .before in
-    let ran = last .before .before .before .before .before .before .before .before .before .before .before .before .before .before .before in
+    let ran = last .before .before .before .before .before .before .before .before .before .before .before .before .before .before in
     omega (arith, last .run-last .kept, ran .run-lines .kept, ran .before .before .before .before .before .before .before .start .kept)
 
 returns : tie.Need-returns
 returns c =
     let last = c .before .before .before .before .before .before .before .before in
-    let ran = last .before .before .before .before .before .before .before .before .before .before .before .before .before .before .before in
+    let ran = last .before .before .before .before .before .before .before .before .before .before .before .before .before .before in
     let begun = ran .before .before .before .before .before .before .before in
     let args = begun .before .before .before .before .before .before .before .args in
     let lines = ran .run-lines .ensures in

@@ -1,6 +1,6 @@
 use mathlib.Core.Path.{refl}
 use Rattle.script_state.specs.Sizes.{outputSize}
-use Rattle.script_state.proofs.Zeros.{zeros-long}
+use Rattle.line_input.proofs.Zeros.{zeros-long}
 use Rattle.script_state.proofs.buffers.output.Statement.{statement}
 use Rattle.script_state.proofs.buffers.output.Tie as tie
 
