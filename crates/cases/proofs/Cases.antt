@@ -1,4 +1,4 @@
--- Document 01's cases 1 to 12, and those of strict mode, hold of the definitions, by computation. Assumes nothing.
+-- Document 01's cases 1 to 12, those of strict mode and those at the edges of its numbers hold of the definitions, by computation. Assumes nothing.
 use Prim.Native.Nat.{ℕ, zero, suc}
 use mathlib.Core.Bool.{Bool}
 use mathlib.Core.Path.{refl}
@@ -6,7 +6,8 @@ use mathlib.Core.List.{List, [], _∷_}
 use lib.ListN.{take, drop}
 use Rattle.cases.specs.Cases.{Row, AllSay, cases}
 use Rattle.cases.specs.StrictCases.{strictCases}
-use Rattle.cases.proofs.Computes.{steps}
+use Rattle.cases.specs.EdgeCases.{edgeCases}
+use Rattle.cases.proofs.Computes.{steps, calls}
 
 -- the first n rows hold, and the others
 halves : (n : ℕ) (l : List Row) → AllSay (take n l) → AllSay (drop n l) → AllSay l
@@ -24,3 +25,7 @@ cases-hold strict =
 pub strict-cases : AllSay strictCases
 unfolding steps
 strict-cases = (refl, (refl, (refl, (refl, (refl, (refl, (refl, (refl, (refl, (refl, (refl, (refl, (refl, tt)))))))))))))
+
+pub edge-cases : AllSay edgeCases
+unfolding calls
+edge-cases = (refl, (refl, (refl, (refl, (refl, (refl, (refl, (refl, (refl, (refl, (refl, (refl, (refl, (refl, (refl, (refl, (refl, (refl, tt))))))))))))))))))

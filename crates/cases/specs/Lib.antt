@@ -1,5 +1,6 @@
 pub mod Cases
 pub mod StrictCases
+pub mod EdgeCases
 pub mod Incident
 pub mod Shams
 pub mod Given
