@@ -1,5 +1,4 @@
 // A script of calls on standard input, its first 8 KiB; an answer a line on standard output.
-use script_state::buffers;
 
 fn main() {
     let mut text = [0u8; 8192];

@@ -11,7 +11,7 @@ use Rattle.block_table.specs.declared.Table.{Table}
 use Rattle.block_table.specs.Table.{freshTable}
 use Rattle.call.specs.Contract.{world}
 use Rattle.replay_control.specs.Control.{configText}
-use Rattle.script_state.specs.Sizes.{memoryOf, lineRoom}
+use Rattle.buffers.specs.Sizes.{memoryOf, lineRoom}
 use Rattle.script_state.specs.declared.Step.{Step}
 use Rattle.fresh_start.specs.Leaves.{freshWorld, After, fresh, Leaves}
 

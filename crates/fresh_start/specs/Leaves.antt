@@ -10,7 +10,7 @@ use Rattle.call.specs.Call.{World}
 use Rattle.call.specs.Contract.{world}
 use Rattle.replay_control.specs.Control.{configText}
 use Rattle.pieces.specs.Memory.{Put}
-use Rattle.script_state.specs.Sizes.{memoryOf, lineRoom}
+use Rattle.buffers.specs.Sizes.{memoryOf, lineRoom}
 use Rattle.script_state.specs.declared.Step.{Step}
 
 -- What a line leaves, and what is printed of it.

@@ -2,10 +2,9 @@
 use config::Config;
 use script_state::State;
 use script_state::Step;
-use script_state::buffers;
 ghost use Prim.Native.Nat.{_+_, _≤_};
 ghost use lib.ListN.{length};
-ghost use Rattle.script_state.specs.Sizes.{memorySize, lineRoom};
+ghost use Rattle.buffers.specs.Sizes.{memorySize, lineRoom};
 ghost use Rattle.fresh_start.specs.Leaves.{freshIn, Left};
 
 // A fresh start: an empty table, and memories of zeros.

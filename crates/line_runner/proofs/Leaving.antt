@@ -20,7 +20,7 @@ use Rattle.pieces.proofs.Puts.{put-as}
 use Rattle.line_input.specs.Sizes.{longest}
 use Rattle.script.specs.Line.{lineOf}
 use Rattle.script_call.specs.Run.{worldAfter, textAfter, Runs}
-use Rattle.script_state.specs.Sizes.{memoryOf, memorySize, lineRoom}
+use Rattle.buffers.specs.Sizes.{memoryOf, memorySize, lineRoom}
 use Rattle.script_state.specs.declared.Step.{Step}
 use Rattle.state_text.specs.State.{stateText}
 use Rattle.fresh_start.specs.Leaves.{After, worldIn, Leaves}

@@ -16,7 +16,7 @@ use Rattle.state_text.specs.State.{stateText}
 use Rattle.script_call.specs.Run.{worldAfter, textAfter}
 use Rattle.fresh_start.specs.Leaves.{After, fresh, worldIn}
 use Rattle.line_input.specs.Sizes.{longest}
-use Rattle.script_state.specs.Sizes.{scratchSize, memorySize, outputSize}
+use Rattle.buffers.specs.Sizes.{scratchSize, memorySize, outputSize}
 use Rattle.script_state.specs.declared.Step.{Step}
 
 abbrev pub stateShown : Config → World → ℕ → After

@@ -1,12 +1,11 @@
 // One line, whatever it is: a call, a fresh start, or the state shown.
 use replay_control::Control;
 use script_state::Step;
-use script_state::buffers;
 ghost use Prim.Native.Nat.{_+_, _≤_};
 ghost use lib.ListN.{length};
 ghost use Rattle.fresh_start.specs.Leaves.{Left};
 ghost use Rattle.line_input.specs.Sizes.{longest, much};
-ghost use Rattle.script_state.specs.Sizes.{lineRoom, memorySize};
+ghost use Rattle.buffers.specs.Sizes.{lineRoom, memorySize};
 ghost use Rattle.line_runner.specs.Line.{Lent, calledIn, shownIn, controlledIn, lineIn};
 
 // A line that is a call, or that cannot be read.

@@ -1,5 +1,4 @@
 // A script of any length on standard input, with lines that start afresh and lines that show the state.
-use script_state::buffers;
 ghost use mathlib.Core.Path.{_≡_};
 ghost use lib.ListN.{length};
 ghost use Rattle.line_input.specs.Sizes.{textSize};

@@ -7,7 +7,7 @@ ghost use Prim.Native.Nat.{_≤_};
 ghost use lib.ListN.{length, take, drop};
 ghost use Rattle.line_input.specs.Sizes.{much};
 ghost use Rattle.pieces.specs.Memory.{Put};
-ghost use Rattle.script_state.specs.Sizes.{outputSize};
+ghost use Rattle.buffers.specs.Sizes.{outputSize};
 ghost use Rattle.script_state.specs.Start.{begun};
 ghost use Rattle.line_runner.specs.Line.{Lent};
 ghost use Rattle.runner.specs.Lines.{linesIn, waitsIn, afterLast, lastText, unended, standing, afterScript, waitsAfterScript};

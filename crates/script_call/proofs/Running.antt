@@ -14,7 +14,7 @@ use Rattle.script.specs.Line.{Said, unreadable}
 use Rattle.script.specs.declared.Request.{Request}
 use Rattle.script.specs.declared.Response.{Response}
 use Rattle.script_cut.specs.Cut.{between}
-use Rattle.script_state.specs.Sizes.{lineRoom}
+use Rattle.buffers.specs.Sizes.{lineRoom}
 use Rattle.script_state.specs.declared.State.{State}
 use Rattle.script_state.specs.declared.Step.{Step}
 use Rattle.script_call.specs.Run.{answered, printed, asked, replied, requestNumbers, responseNumbers, worldAfter, textAfter, withTable, Runs}

@@ -17,7 +17,7 @@ use Rattle.script.specs.declared.Response.{Response}
 use Rattle.answer_text.specs.Answer.{answerText, unreadableText}
 use Rattle.pieces.specs.Memory.{Put}
 use Rattle.answer_text.specs.Shown.{shownOf}
-use Rattle.script_state.specs.Sizes.{lineRoom}
+use Rattle.buffers.specs.Sizes.{lineRoom}
 use Rattle.script_state.specs.declared.State.{State}
 use Rattle.script_state.specs.declared.Step.{Step}
 

@@ -14,7 +14,7 @@ ghost use Rattle.pieces.specs.Memory.{Put};
 ghost use Rattle.answer_text.specs.Answer.{unreadableText};
 ghost use Rattle.script.specs.Line.{InBuffer, lineOf};
 ghost use Rattle.script_call.specs.Run.{withTable, answered, asked, replied, Ran};
-ghost use Rattle.script_state.specs.Sizes.{memorySize, lineRoom};
+ghost use Rattle.buffers.specs.Sizes.{memorySize, lineRoom};
 
 // An answer, with what it shows of the message's payload and of the memories as the call left them.
 fn print<'a>(

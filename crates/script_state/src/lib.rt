@@ -10,8 +10,6 @@ ghost use Rattle.pieces.specs.Memory.{Put};
 ghost use Rattle.line_input.specs.Sizes.{much};
 ghost use Rattle.script_state.specs.Start.{scriptConfig, header, begun};
 
-pub mod buffers;
-
 // Where the script stands: the configuration, the table, and the number of the last line.
 pub struct State {
     pub config: Config,

@@ -1,6 +1,6 @@
 use mathlib.Core.Path.{refl}
 use Rattle.line_input.specs.Sizes.{textSize}
-use Rattle.line_input.proofs.Zeros.{zeros-long}
+use Rattle.buffers.proofs.Zeros.{zeros-long}
 use Rattle.line_input.proofs.text.Statement.{statement}
 use Rattle.line_input.proofs.text.Tie as tie
 

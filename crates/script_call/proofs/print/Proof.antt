@@ -6,7 +6,7 @@ use lib.ListN.{length}
 use Rattle.pieces.proofs.Puts.{put-as}
 use Rattle.answer_text.specs.Answer.{answerText}
 use Rattle.answer_text.proofs.Showing.{shown-short}
-use Rattle.script_state.specs.Sizes.{memorySize}
+use Rattle.buffers.specs.Sizes.{memorySize}
 use borrow.Author.Needs.{needs}
 use Rattle.script_call.proofs.print.Statement.{statement}
 use Rattle.script_call.proofs.print.Tie as tie

@@ -2,7 +2,7 @@
 ghost use mathlib.Core.Path.{_≡_};
 ghost use Prim.Native.Nat.{_≤_};
 ghost use lib.ListN.{length, replicate};
-ghost use Rattle.script_state.specs.Sizes.{scratchSize, memorySize, outputSize, memoryOf};
+ghost use Rattle.buffers.specs.Sizes.{scratchSize, memorySize, outputSize, memoryOf};
 
 // Half of the longest line that is read.
 const SCRATCH: usize = 100000;
