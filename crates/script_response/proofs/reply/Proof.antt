@@ -1,11 +1,11 @@
 use mathlib.Core.Path.{sym}
 use native.Mathlib.Omega.{arith}
 use lib.Seq.{length-take-le}
-use Rattle.script_call.proofs.Running.{runs-replied}
+use Rattle.script_response.proofs.Replying.{runs-replied}
 use Rattle.call.specs.Contract.{world}
 use borrow.Author.Needs.{needs}
-use Rattle.script_call.proofs.reply.Statement.{statement}
-use Rattle.script_call.proofs.reply.Tie as tie
+use Rattle.script_response.proofs.reply.Statement.{statement}
+use Rattle.script_response.proofs.reply.Tie as tie
 
 slice-aggregate-intercept-response : tie.Need-slice-aggregate-intercept-response
 slice-aggregate-intercept-response c = let start = c .before .before .before .before .before .before in sym (length-take-le _ _ (omega (arith, start .pre .0 .0)))
@@ -13,7 +13,7 @@ slice-aggregate-intercept-response c = let start = c .before .before .before .be
 returns : tie.Need-returns
 returns c =
     let print = c .before .before in
-    let called = print .before .before .before .before .before .before in
+    let called = print .before .before .before .before .before .before .before in
     let args = called .before .before .before .before .before .before .before .before .before .args in
     runs-replied (args .step) _ (world (args .step .state .table) (args .upload .now) (args .response .now)) (args .scratch .now) (args .r)
     (called .intercept-response .ensures) (print .print .ensures .0) (print .print .ensures .1 .0) (print .print .ensures .1 .1)

@@ -2,10 +2,10 @@ use mathlib.Core.Path.{sym, ap, _∙_}
 use native.Mathlib.Omega.{arith}
 use Rattle.script.specs.Line.{saidBy}
 use Rattle.script.specs.declared.Line.{Line}
-use Rattle.script_call.proofs.Running.{runs-as, runs-unread}
+use Rattle.line_runner.proofs.Running.{runs-as, runs-unread}
 use borrow.Author.Needs.{needs}
-use Rattle.script_call.proofs.run_line.Statement.{statement}
-use Rattle.script_call.proofs.run_line.Tie as tie
+use Rattle.line_runner.proofs.run_line.Statement.{statement}
+use Rattle.line_runner.proofs.run_line.Tie as tie
 
 ask-requires : tie.Need-ask-requires
 ask-requires c κs =

@@ -1,11 +1,11 @@
 use mathlib.Core.Path.{sym}
 use native.Mathlib.Omega.{arith}
 use lib.Seq.{length-take-le}
-use Rattle.script_call.proofs.Running.{runs-asked}
+use Rattle.script_request.proofs.Asking.{runs-asked}
 use Rattle.call.specs.Contract.{world}
 use borrow.Author.Needs.{needs}
-use Rattle.script_call.proofs.ask.Statement.{statement}
-use Rattle.script_call.proofs.ask.Tie as tie
+use Rattle.script_request.proofs.ask.Statement.{statement}
+use Rattle.script_request.proofs.ask.Tie as tie
 
 slice-aggregate-intercept-request : tie.Need-slice-aggregate-intercept-request
 slice-aggregate-intercept-request c = let start = c .before .before .before .before .before .before in sym (length-take-le _ _ (omega (arith, start .pre .0 .0)))
@@ -13,7 +13,7 @@ slice-aggregate-intercept-request c = let start = c .before .before .before .bef
 returns : tie.Need-returns
 returns c =
     let print = c .before .before in
-    let called = print .before .before .before .before .before .before in
+    let called = print .before .before .before .before .before .before .before in
     let args = called .before .before .before .before .before .before .before .before .before .before .args in
     runs-asked (args .step) _ (world (args .step .state .table) (args .upload .now) (args .response .now)) (args .scratch .now) (args .r)
     (called .intercept-request .ensures) (print .print .ensures .0) (print .print .ensures .1 .0) (print .print .ensures .1 .1)

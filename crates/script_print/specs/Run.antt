@@ -10,10 +10,7 @@ use Rattle.block_state.specs.declared.Answer.{Answer}
 use Rattle.block_table.specs.declared.Table.{Table}
 use Rattle.call.specs.Call.{World, Done, call}
 use Rattle.call.specs.Contract.{world, requestCall, responseCall}
-use Rattle.script.specs.Line.{Said, request, response, unreadable, saidBy}
-use Rattle.script.specs.declared.Line.the-variants as line
-use Rattle.script.specs.declared.Request.{Request}
-use Rattle.script.specs.declared.Response.{Response}
+use Rattle.script.specs.Line.{Said, request, response, unreadable}
 use Rattle.answer_text.specs.Answer.{answerText, unreadableText}
 use Rattle.pieces.specs.Memory.{Put}
 use Rattle.answer_text.specs.Shown.{shownOf}
@@ -57,13 +54,6 @@ pub record Runs (s : Step) (w : World) (q : Said) (m : List ℕ) (z : Step) (w�
   pub text : Put m (s .at) (textAfter (s .state .config) w (s .state .number) q) m′ (z .at)
   pub room : z .at ≤ s .at + lineRoom
 
--- ---- the same with what is lent: the memories, and the buffer that the fields are read from
-
-abbrev pub asked : Request → List ℕ → Said
-asked r scratch = saidBy (line.Request r) scratch
-
-abbrev pub replied : Response → List ℕ → Said
-replied r scratch = saidBy (line.Response r) scratch
-
+-- The same with the memories that are lent.
 abbrev pub Ran : Step → List ℕ → List ℕ → Said → List ℕ → Step → List ℕ → List ℕ → List ℕ → Type 0
 Ran s up away q m z up′ away′ m′ = Runs s (world (s .state .table) up away) q m z (world (z .state .table) up′ away′) m′

@@ -8,26 +8,26 @@ use Rattle.answer_text.specs.Answer.{answerText}
 use Rattle.answer_text.proofs.Showing.{shown-short}
 use Rattle.script_state.specs.Sizes.{memorySize}
 use borrow.Author.Needs.{needs}
-use Rattle.script_call.proofs.print.Statement.{statement}
-use Rattle.script_call.proofs.print.Tie as tie
+use Rattle.script_print.proofs.print.Statement.{statement}
+use Rattle.script_print.proofs.print.Tie as tie
 
 put-answer-requires : tie.Need-put-answer-requires
 put-answer-requires c κs =
     let start = c .before .before .before .before .before .before in
     let args = start .args in
-    let short = shown-short (args .outcome .answer) (args .payload .now) (args .upload .now) (args .response .now) memorySize (start .pre .0 .0) (start .pre .0 .1) (start .pre .0 .2) in
+    let short = shown-short (args .answer) (args .payload .now) (args .upload .now) (args .response .now) memorySize (start .pre .0 .0) (start .pre .0 .1) (start .pre .0 .2) in
     omega (arith, ap length (c .before .shown .ensures), short, start .pre .1)
 
 returns : tie.Need-returns
 returns c =
-    let start = c .before .before .before .before .before .before .before .before .before .before .before in
+    let start = c .before .before .before .before .before .before .before .before .before .before in
     let args = start .args in
-    let short = shown-short (args .outcome .answer) (args .payload .now) (args .upload .now) (args .response .now) memorySize (start .pre .0 .0) (start .pre .0 .1) (start .pre .0 .2) in
-    let put = c .before .before .before .before in
+    let short = shown-short (args .answer) (args .payload .now) (args .upload .now) (args .response .now) memorySize (start .pre .0 .0) (start .pre .0 .1) (start .pre .0 .2) in
+    let put = c .before .before .before in
     let shown = put .before .before .shown .ensures in (
       refl,
       (
-        put-as (put .put-answer .ensures .0) (ap (λ (b : List ℕ). answerText (args .step .state .number) (args .outcome .answer) b) shown),
+        put-as (put .put-answer .ensures .0) (ap (λ (b : List ℕ). answerText (args .step .state .number) (args .answer) b) shown),
         omega (arith, ap length shown, short, put .put-answer .ensures .1),
       ),
     )
