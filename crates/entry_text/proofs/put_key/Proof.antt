@@ -6,8 +6,8 @@ use lib.Seq.{take-all}
 use Rattle.script_text.specs.Text.{hex}
 use Rattle.pieces.proofs.Puts.{put-as}
 use borrow.Author.Needs.{needs}
-use Rattle.state_text.proofs.put_key.Statement.{statement}
-use Rattle.state_text.proofs.put_key.Tie as tie
+use Rattle.entry_text.proofs.put_key.Statement.{statement}
+use Rattle.entry_text.proofs.put_key.Tie as tie
 
 some : tie.Need-returns
 some c =

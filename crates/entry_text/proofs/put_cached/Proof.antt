@@ -1,9 +1,9 @@
 use borrow.Author.Tests.{not-true, not-false}
 use Rattle.pieces.proofs.Puts.{put-as}
-use Rattle.state_text.specs.State.{cachedText}
+use Rattle.entry_text.specs.Entry.{cachedText}
 use borrow.Author.Needs.{needs}
-use Rattle.state_text.proofs.put_cached.Statement.{statement}
-use Rattle.state_text.proofs.put_cached.Tie as tie
+use Rattle.entry_text.proofs.put_cached.Statement.{statement}
+use Rattle.entry_text.proofs.put_cached.Tie as tie
 
 none : tie.Need-returns
 unfolding cachedText

@@ -1,8 +1,8 @@
 use Rattle.pieces.proofs.Puts.{put-as, put-then}
-use Rattle.state_text.specs.State.{whatText}
+use Rattle.entry_text.specs.Entry.{whatText}
 use borrow.Author.Needs.{needs}
-use Rattle.state_text.proofs.put_what.Statement.{statement}
-use Rattle.state_text.proofs.put_what.Tie as tie
+use Rattle.entry_text.proofs.put_what.Statement.{statement}
+use Rattle.entry_text.proofs.put_what.Tie as tie
 
 returns : tie.Need-returns
 unfolding whatText

@@ -1,9 +1,9 @@
 use Rattle.keys.specs.Keys.{keyOf}
 use Rattle.pieces.proofs.Puts.{put-then, put-as}
-use Rattle.state_text.specs.State.{whoText}
+use Rattle.entry_text.specs.Entry.{whoText}
 use borrow.Author.Needs.{needs}
-use Rattle.state_text.proofs.put_who.Statement.{statement}
-use Rattle.state_text.proofs.put_who.Tie as tie
+use Rattle.entry_text.proofs.put_who.Statement.{statement}
+use Rattle.entry_text.proofs.put_who.Tie as tie
 
 returns : tie.Need-returns
 unfolding whoText keyOf

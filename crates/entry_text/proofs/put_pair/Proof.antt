@@ -1,8 +1,8 @@
 use Rattle.pieces.proofs.Puts.{put-then}
-use Rattle.state_text.specs.State.{pairText}
+use Rattle.entry_text.specs.Entry.{pairText}
 use borrow.Author.Needs.{needs}
-use Rattle.state_text.proofs.put_pair.Statement.{statement}
-use Rattle.state_text.proofs.put_pair.Tie as tie
+use Rattle.entry_text.proofs.put_pair.Statement.{statement}
+use Rattle.entry_text.proofs.put_pair.Tie as tie
 
 returns : tie.Need-returns
 unfolding pairText

@@ -1,8 +1,8 @@
 use Rattle.pieces.proofs.Puts.{put-then}
-use Rattle.state_text.specs.State.{entryText}
+use Rattle.entry_text.specs.Entry.{entryText}
 use borrow.Author.Needs.{needs}
-use Rattle.state_text.proofs.put_entry.Statement.{statement}
-use Rattle.state_text.proofs.put_entry.Tie as tie
+use Rattle.entry_text.proofs.put_entry.Statement.{statement}
+use Rattle.entry_text.proofs.put_entry.Tie as tie
 
 returns : tie.Need-returns
 unfolding entryText
