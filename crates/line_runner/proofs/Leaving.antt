@@ -19,7 +19,7 @@ use Rattle.pieces.specs.Memory.{Put}
 use Rattle.pieces.proofs.Puts.{put-as}
 use Rattle.line_input.specs.Sizes.{longest}
 use Rattle.script.specs.Line.{lineOf}
-use Rattle.script_call.specs.Run.{worldAfter, textAfter, Runs}
+use Rattle.script_print.specs.Run.{worldAfter, textAfter, Runs}
 use Rattle.buffers.specs.Sizes.{memoryOf, memorySize, lineRoom}
 use Rattle.script_state.specs.declared.Step.{Step}
 use Rattle.state_text.specs.State.{stateText}

@@ -13,7 +13,7 @@ use Rattle.replay_control.specs.declared.Control.{Control}
 use Rattle.replay_control.specs.declared.Control.the-variants.{Fresh, Show, Other}
 use Rattle.replay_control.specs.Control.{controlOf}
 use Rattle.state_text.specs.State.{stateText}
-use Rattle.script_call.specs.Run.{worldAfter, textAfter}
+use Rattle.script_print.specs.Run.{worldAfter, textAfter}
 use Rattle.fresh_start.specs.Leaves.{After, fresh, worldIn}
 use Rattle.line_input.specs.Sizes.{longest}
 use Rattle.buffers.specs.Sizes.{scratchSize, memorySize, outputSize}

@@ -13,7 +13,8 @@ use Rattle.script_text.specs.Text.{none}
 use Rattle.pieces.proofs.Puts.{put-none, put-then, put-as, put-length}
 use Rattle.entries.specs.declared.Entry.{Entry}
 use Rattle.keys.proofs.Turns.{drop-step}
-use Rattle.state_text.specs.State.{entryText, usedTexts, continued, joined, entriesText, nextText}
+use Rattle.entry_text.specs.Entry.{entryText}
+use Rattle.state_text.specs.State.{usedTexts, continued, joined, entriesText, nextText}
 
 pub entry-some : (i : ℕ) (e : Entry) → 0 < length (entryText i e)
 unfolding entryText
