@@ -50,7 +50,7 @@ pub fn sweep_row(entries: [Entry; 16], lifetime: u64, time: u64) -> [Entry; 16]
     let mut row = entries;
     let mut i = 0;
     while i < 16 {
-        if !entries::is_live(row[i].used, row[i].touched, lifetime, time) {
+        if !expiry::is_live(row[i].used, row[i].touched, lifetime, time) {
             row[i] = entries::free_entry();
         }
         i += 1;

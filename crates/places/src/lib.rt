@@ -61,7 +61,7 @@ fn narrow(x: usize) -> u32
 fn holds_live(e: Entry, lifetime: u64, time: u64, key: Key) -> bool
     ensures { λ r. ⌜ r ≡ holdsLive lifetime time (keyOf key) e ⌝ }
 {
-    if entries::is_live(e.used, e.touched, lifetime, time) {
+    if expiry::is_live(e.used, e.touched, lifetime, time) {
         let stored = e.key;
         return keys::same_key(key, stored);
     }
@@ -89,7 +89,7 @@ fn find_free(entries: [Entry; 16], lifetime: u64, time: u64) -> usize
 {
     let mut at = 0;
     while at < 16 {
-        if !entries::is_live(entries[at].used, entries[at].touched, lifetime, time) {
+        if !expiry::is_live(entries[at].used, entries[at].touched, lifetime, time) {
             return at;
         }
         at += 1;
@@ -145,8 +145,8 @@ fn see(seen: Seen, i: usize, e: Entry, config: Config, clock: u64, time: u64) ->
     ensures { λ r. ⌜ (r ≡ seenNext config clock time seen i e) × (sized e ≡ true) ⌝ }
 {
     let ok = seen.ok & entries::entry_ok(config, clock, e);
-    let freed = seen.freed | entries::is_expired(e.used, e.touched, config.lifetime, time);
-    let live = entries::is_live(e.used, e.touched, config.lifetime, time);
+    let freed = seen.freed | expiry::is_expired(e.used, e.touched, config.lifetime, time);
+    let live = expiry::is_live(e.used, e.touched, config.lifetime, time);
     if (16 <= seen.free) & !live {
         return Seen { ok, freed, free: i };
     }
