@@ -2,7 +2,8 @@
 use entries::Entry;
 ghost use mathlib.Core.Path.{_≡_};
 ghost use lib.ListN.{length, drop};
-ghost use Rattle.block_table.specs.Table.{distinct, sweep, tableWith, freshTable};
+ghost use Rattle.entries.specs.Entries.{sweep};
+ghost use Rattle.block_table.specs.Table.{distinct, tableWith, freshTable};
 ghost use Rattle.block_table.specs.Quick.{alone};
 
 #[repr(C)]

@@ -1,6 +1,7 @@
--- Document 01, "Table and clock", of one entry: in use or free, its limits, and expiry.
+-- Document 01, "Table and clock", of one entry: in use or free, its limits, and expiry; and expiry of a row.
 use Prim.Native.Nat.{ℕ}
 use mathlib.Core.Bool.{Bool, true, false, cond, not, _&&_}
+use mathlib.Core.List.{List, map}
 use lib.Dec.{leb, eqb}
 use Rattle.config.specs.declared.Config.{Config}
 use Rattle.block_state.specs.declared.BlockState.{BlockState}
@@ -50,3 +51,7 @@ live lifetime time e = liveBy (e .used) (e .touched) lifetime time
 -- "A call that passes checks 1 and 2 first frees every entry that is not live."
 unfoldable pub swept : ℕ → ℕ → Entry → Entry
 swept lifetime time e = cond (live lifetime time e) e free
+
+-- The same of a row.
+unfoldable pub sweep : ℕ → ℕ → List Entry → List Entry
+sweep lifetime time l = map (swept lifetime time) l

@@ -15,13 +15,14 @@ use Rattle.keys.specs.Keys.{Name, keyOk, tagOf}
 use Rattle.keys.proofs.Turns.{drop-step, all-go, all-end, find-go, find-here}
 use Rattle.expiry.specs.Expiry.{liveBy, expiredBy}
 use Rattle.entries.specs.declared.Entry.{Entry}
-use Rattle.entries.specs.Entries.{free as unheld, entryOk}
+use Rattle.entries.specs.Entries.{free as unheld, entryOk, sweep}
 use Rattle.entries.specs.Quick.{holdsLive, notLive, sized, unexpired}
 use Rattle.entries.proofs.Cases.{live-as, unexpired-as}
 use Rattle.block_table.specs.declared.Table.{Table}
-use Rattle.block_table.specs.Table.{distinct, sweep, at}
+use Rattle.block_table.specs.Table.{distinct, at}
 use Rattle.block_table.specs.Quick.{tagsFrom}
-use Rattle.block_table.proofs.Turns.{nil, getD-any, freed-go, freed-end}
+use Rattle.entries.proofs.Turns.{nil}
+use Rattle.block_table.proofs.Turns.{getD-any, freed-go, freed-end}
 use Rattle.places.specs.declared.Seen.{Seen}
 use Rattle.places.specs.declared.Sight.{Sight}
 use Rattle.places.specs.declared.Place.{Place}
