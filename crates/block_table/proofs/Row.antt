@@ -12,8 +12,8 @@ use Rattle.pieces.proofs.Tests.{and-left, and-right, and-both, false-is-not, re
 use Rattle.entries.specs.declared.Entry.{Entry}
 use Rattle.keys.specs.Lists.{all}
 use Rattle.keys.specs.Keys.{Name, keyOf}
-use Rattle.entries.specs.Entries.{free, holds, clash, live, swept}
-use Rattle.block_table.specs.Table.{distinct, sweep, at}
+use Rattle.entries.specs.Entries.{free, holds, clash, live, swept, sweep}
+use Rattle.block_table.specs.Table.{distinct, at}
 use Rattle.keys.proofs.Lists.{all-at, at-all}
 use Rattle.entries.proofs.Entries.{holds-own, no-clash, swept-holds}
 

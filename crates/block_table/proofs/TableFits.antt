@@ -10,8 +10,8 @@ use Rattle.pieces.proofs.Tests.{ands, and-both}
 use Rattle.entries.specs.declared.Entry.{Entry}
 use Rattle.block_table.specs.declared.Table.{Table}
 use Rattle.keys.specs.Lists.{all}
-use Rattle.entries.specs.Entries.{free, entryOk, live}
-use Rattle.block_table.specs.Table.{distinct, tableOk, sweep, at, freshTable}
+use Rattle.entries.specs.Entries.{free, entryOk, live, sweep}
+use Rattle.block_table.specs.Table.{distinct, tableOk, at, freshTable}
 use Rattle.keys.proofs.Lists.{all-at, at-all}
 use Rattle.entries.proofs.Entries.{holds-used, swept-live, free-ok, swept-ok}
 use Rattle.block_table.proofs.Row.{Unique, distinct-unique, unique-distinct, length-sweep, at-sweep, unique-sweep}

@@ -9,19 +9,14 @@ use lib.ListN.{length, getD, take, drop, set}
 use lib.Seq.{drop-cons, drop-set-lt, take-suc-set, take-suc, append-snoc}
 use borrow.Author.Tests.{not-false}
 use Rattle.config.specs.declared.Config.{Config}
-use Rattle.block_state.specs.State.{nothing}
 use Rattle.entries.specs.declared.Entry.{Entry}
 use Rattle.keys.specs.Lists.{all}
-use Rattle.entries.specs.Entries.{swept, entryOk}
-use Rattle.block_table.specs.Table.{sweep}
+use Rattle.entries.specs.Entries.{swept, sweep, entryOk}
 use Rattle.pieces.proofs.Tests.{ands}
-use Rattle.keys.proofs.Turns.{nilKey, drop-step, all-end}
+use Rattle.keys.proofs.Turns.{drop-step, all-end}
 use Rattle.entries.specs.Quick.{sized, unexpired}
 use Rattle.entries.proofs.Cases.{kept-by}
-
--- What an index past the end of a row reads, as Rattle has it. Below the length it does not matter.
-abbrev pub nil : Entry
-nil = record { key = nilKey; used = false; touched = 0; state = nothing }
+use Rattle.entries.proofs.Turns.{nil}
 
 -- below the length of a row it does not matter what stands past its end
 pub getD-any : (l : List Entry) (i : ℕ) (d e : Entry) → i < length l → getD l i d ≡ getD l i e

@@ -1,13 +1,13 @@
--- Document 01, "Table and clock", of the row and the table: the limits of a table, expiry, and a fresh table.
+-- Document 01, "Table and clock", of the row and the table: the limits of a table, and a fresh table.
 use Prim.Native.Nat.{ℕ}
 use mathlib.Core.Bool.{Bool, true, not, _&&_}
-use mathlib.Core.List.{List, [], _∷_, map}
+use mathlib.Core.List.{List, [], _∷_}
 use lib.ListN.{getD, set, replicate}
 use Rattle.config.specs.declared.Config.{Config}
 use Rattle.entries.specs.declared.Entry.{Entry}
 use Rattle.block_table.specs.declared.Table.{Table}
 use Rattle.keys.specs.Lists.{all}
-use Rattle.entries.specs.Entries.{free, entryOk, clash, swept}
+use Rattle.entries.specs.Entries.{free, entryOk, clash}
 
 -- ---- Limits (refusal 1)
 
@@ -18,15 +18,10 @@ distinct (e ∷ rest) = all (λ f. not (clash e f)) rest && distinct rest
 unfoldable pub tableOk : Config → Table → Bool
 tableOk c t = all (entryOk c (t .clock)) (t .entries) && distinct (t .entries)
 
--- ---- Expiry
-
-unfoldable pub sweep : ℕ → ℕ → List Entry → List Entry
-sweep lifetime time l = map (swept lifetime time) l
+-- ---- An entry of the row, and a table
 
 abbrev pub at : List Entry → ℕ → Entry
 at l i = getD l i free
-
--- ---- A table
 
 -- The table with this clock and this row: every table is made here.
 abbrev pub tableOf : ℕ → List Entry → Table

@@ -2,7 +2,8 @@
 use entries::Entry;
 ghost use mathlib.Core.Path.{_≡_};
 ghost use lib.ListN.{length, drop};
-ghost use Rattle.block_table.specs.Table.{distinct, sweep, tableWith, freshTable};
+ghost use Rattle.entries.specs.Entries.{sweep};
+ghost use Rattle.block_table.specs.Table.{distinct, tableWith, freshTable};
 ghost use Rattle.block_table.specs.Quick.{alone};
 
 #[repr(C)]
@@ -50,7 +51,7 @@ pub fn sweep_row(entries: [Entry; 16], lifetime: u64, time: u64) -> [Entry; 16]
     let mut row = entries;
     let mut i = 0;
     while i < 16 {
-        if !entries::is_live(row[i].used, row[i].touched, lifetime, time) {
+        if !expiry::is_live(row[i].used, row[i].touched, lifetime, time) {
             row[i] = entries::free_entry();
         }
         i += 1;

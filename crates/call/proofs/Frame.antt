@@ -27,7 +27,8 @@ use Rattle.entries.specs.declared.Entry.{Entry}
 use Rattle.keys.specs.Keys.{same, keyOk}
 use Rattle.entries.specs.Entries.{inUse, holds, live}
 use Rattle.block_table.specs.Table.{tableOk, at}
-use Rattle.places.specs.Places.{place, opened}
+use Rattle.key_place.specs.Place.{place}
+use Rattle.places.specs.Places.{opened}
 use Rattle.block_table.proofs.Row.{at-set-same, at-set-other}
 use Rattle.places.proofs.Places.{elsewhere}
 use Rattle.block_table.proofs.TableFits.{TableFits, table-fits, fits-table, row-length, row-live}

@@ -26,12 +26,13 @@ use Rattle.keys.specs.declared.Key.{Key}
 use Rattle.keys.specs.Keys.{Name, stored}
 use Rattle.entries.specs.declared.Entry.{Entry}
 use Rattle.block_table.specs.declared.Table.{Table}
-use Rattle.block_table.specs.Table.{sweep}
+use Rattle.entries.specs.Entries.{sweep}
 use Rattle.block_table.proofs.Row.{at-sweep}
 use Rattle.block_table.proofs.Changed.{with-same}
 use Rattle.places.specs.declared.Place.the-variants.{At}
 use Rattle.places.specs.declared.Sight.{Sight}
-use Rattle.places.specs.Places.{place, opened}
+use Rattle.key_place.specs.Place.{place}
+use Rattle.places.specs.Places.{opened}
 use Rattle.places.specs.Sight.{Sees}
 use Rattle.places.proofs.Sighted.{seen-back}
 use Rattle.table_change.specs.Change.{changed, unchanged, openedFrom, changeTo}

@@ -17,9 +17,10 @@ use Rattle.keys.specs.declared.Key.{Key}
 use Rattle.entries.specs.declared.Entry.{Entry}
 use Rattle.block_table.specs.declared.Table.{Table}
 use Rattle.keys.specs.Keys.{Name, keyOk}
-use Rattle.entries.specs.Entries.{inUse}
-use Rattle.block_table.specs.Table.{tableOk, sweep, tableWith}
-use Rattle.places.specs.Places.{place, opened}
+use Rattle.entries.specs.Entries.{inUse, sweep}
+use Rattle.block_table.specs.Table.{tableOk, tableWith}
+use Rattle.key_place.specs.Place.{place}
+use Rattle.places.specs.Places.{opened}
 use Rattle.judge.specs.Limits.{configOk, memoriesOk}
 
 -- What every call gets "that the call before it left": the table and the two memories.

@@ -13,6 +13,7 @@ use Rattle.response_step.specs.Step as reply
 use Rattle.keys.specs.Keys as keys
 use Rattle.entries.specs.Entries as entries
 use Rattle.block_table.specs.Table as table
+use Rattle.key_place.specs.Place as place
 use Rattle.places.specs.Places as places
 use Rattle.judge.specs.Limits as judge
 use Rattle.call.specs.Call as h
@@ -44,5 +45,5 @@ unfolding entry keys.same keys.keyOk entries.holds entries.clash table.distinct 
 limits = tt
 
 unfoldable pub calls : Unit {0}
-unfolding steps limits entries.live entries.swept table.sweep places.place places.opened h.callAt h.call
+unfolding steps limits entries.live entries.swept entries.sweep place.place places.opened h.callAt h.call
 calls = tt

@@ -17,7 +17,8 @@ use Rattle.entries.proofs.Entries.{holds-used, holds-new, used-live, entry-fits
 use Rattle.block_table.specs.Table.{at}
 use Rattle.block_table.proofs.Row.{at-set-same}
 use Rattle.block_table.proofs.TableFits.{row, row-length, row-unique, row-live}
-use Rattle.places.specs.Places.{place, opened}
+use Rattle.key_place.specs.Place.{place}
+use Rattle.places.specs.Places.{opened}
 use Rattle.places.proofs.Places.{opened-own, opened-key, place-of}
 use Rattle.judge.specs.Limits.{configOk}
 use Rattle.call.specs.Call.{World, Call, Done, callAt, rowOf, call}

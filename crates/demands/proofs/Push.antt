@@ -34,7 +34,8 @@ use Rattle.entries.proofs.Entries.{holds-new, swept-dead, swept-holds}
 use Rattle.block_table.specs.Table.{at}
 use Rattle.block_table.proofs.Row.{at-sweep}
 use Rattle.block_table.proofs.TableFits.{row, row-length, row-unique, row-live}
-use Rattle.places.specs.Places.{place, opened}
+use Rattle.key_place.specs.Place.{place}
+use Rattle.places.specs.Places.{opened}
 use Rattle.places.proofs.Places.{opened-own, opened-new, opened-key, place-holds, place-of}
 use Rattle.judge.specs.Limits.{configOk}
 use Rattle.answers.specs.Parts.{partOf}

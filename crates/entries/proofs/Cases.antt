@@ -7,6 +7,7 @@ use borrow.Author.Tests.{eqb-true}
 use Rattle.config.specs.declared.Config.{Config}
 use Rattle.block_state.specs.declared.BlockState.{BlockState}
 use Rattle.block_state.specs.State.{nothing, isNothing}
+use Rattle.expiry.specs.Expiry.{liveBy, expiredBy}
 use Rattle.entries.specs.declared.Entry.{Entry}
 use Rattle.keys.specs.Keys.{Name, same, keyOf, keySized}
 use Rattle.entries.specs.Entries.{free, holds, live, swept, unused, entryOk}
@@ -18,7 +19,7 @@ use Rattle.keys.proofs.Keys.{no-key-is}
 -- ---- expiry
 
 module _ (lifetime time : ℕ) (e : Entry) where
-  pub live-as : (b : Bool) → b ≡ (e .used && ltb (time - e .touched) lifetime) → live lifetime time e ≡ b
+  pub live-as : (b : Bool) → b ≡ liveBy (e .used) (e .touched) lifetime time → live lifetime time e ≡ b
   unfolding live
   live-as b h = sym h
 
@@ -32,7 +33,7 @@ module _ (lifetime time : ℕ) (k : Name) (e : Entry) where
   held-as b h s = rw (h, s)
 
 -- an entry that is not expired, by what the code tests
-pub unexpired-as : (lifetime time : ℕ) (e : Entry) (b : Bool) → b ≡ (e .used && not (ltb (time - e .touched) lifetime)) → unexpired lifetime time e ≡ not b
+pub unexpired-as : (lifetime time : ℕ) (e : Entry) (b : Bool) → b ≡ expiredBy (e .used) (e .touched) lifetime time → unexpired lifetime time e ≡ not b
 unfolding unexpired
 unexpired-as lifetime time e b h = ap not (sym h)
 

@@ -1,3 +1,4 @@
 pub mod Entries
 pub mod Cases
 pub mod Quick
+pub mod Turns

@@ -1,11 +1,13 @@
--- Document 01, "Table and clock", of one entry: in use or free, its limits, and expiry.
-use Prim.Native.Nat.{ℕ, _-_}
+-- Document 01, "Table and clock", of one entry: in use or free, its limits, and expiry; and expiry of a row.
+use Prim.Native.Nat.{ℕ}
 use mathlib.Core.Bool.{Bool, true, false, cond, not, _&&_}
-use lib.Dec.{leb, ltb, eqb}
+use mathlib.Core.List.{List, map}
+use lib.Dec.{leb, eqb}
 use Rattle.config.specs.declared.Config.{Config}
 use Rattle.block_state.specs.declared.BlockState.{BlockState}
 use Rattle.block_state.specs.State.{nothing, stateOk, isNothing}
 use Rattle.keys.specs.declared.Key.{Key}
+use Rattle.expiry.specs.Expiry.{liveBy}
 use Rattle.entries.specs.declared.Entry.{Entry}
 use Rattle.keys.specs.Keys.{Name, same, keyOf, storedOk, noKey, isNoKey}
 
@@ -42,10 +44,14 @@ clash e f = e .used && holds (keyOf (e .key)) f
 
 -- ---- Expiry
 
--- "An entry is live while now - touched < lifetime."
+-- The entry is live.
 unfoldable pub live : ℕ → ℕ → Entry → Bool
-live lifetime time e = e .used && ltb (time - e .touched) lifetime
+live lifetime time e = liveBy (e .used) (e .touched) lifetime time
 
 -- "A call that passes checks 1 and 2 first frees every entry that is not live."
 unfoldable pub swept : ℕ → ℕ → Entry → Entry
 swept lifetime time e = cond (live lifetime time e) e free
+
+-- The same of a row.
+unfoldable pub sweep : ℕ → ℕ → List Entry → List Entry
+sweep lifetime time l = map (swept lifetime time) l

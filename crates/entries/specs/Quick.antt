@@ -1,7 +1,7 @@
 -- How the code tests one entry quickly. No contract of the handler's two calls, nor of an export, cites this.
-use Prim.Native.Nat.{ℕ, _-_, _*_}
+use Prim.Native.Nat.{ℕ, _*_}
 use mathlib.Core.Bool.{Bool, cond, not, _&&_, _||_}
-use lib.Dec.{ltb}
+use Rattle.expiry.specs.Expiry.{expiredBy}
 use Rattle.entries.specs.declared.Entry.{Entry}
 use Rattle.keys.specs.Keys.{Name, same, keyOf, keySized, tagOf as keyTag}
 use Rattle.entries.specs.Entries.{live}
@@ -23,4 +23,4 @@ sized e = e .used || keySized (e .key)
 
 -- Free, or live: a sweep leaves it as it is, if the table is within its limits.
 unfoldable pub unexpired : ℕ → ℕ → Entry → Bool
-unexpired lifetime time e = not (e .used && not (ltb (time - e .touched) lifetime))
+unexpired lifetime time e = not (expiredBy (e .used) (e .touched) lifetime time)

@@ -6,9 +6,8 @@ use block_state::Recorded;
 use config::Config;
 use keys::Key;
 ghost use mathlib.Core.Path.{_≡_};
-ghost use mathlib.Core.Bool.{true, false, not, _&&_};
-ghost use Prim.Native.Nat.{_-_, _<_};
-ghost use lib.Dec.{ltb};
+ghost use mathlib.Core.Bool.{true, false};
+ghost use Prim.Native.Nat.{_<_};
 ghost use Rattle.block_state.specs.State.{nothing};
 ghost use Rattle.keys.specs.Keys.{keySized};
 ghost use Rattle.entries.specs.Entries.{free, startFrom, entryOk, clash, swept};
@@ -78,18 +77,6 @@ pub fn clashes(e: Entry, f: Entry) -> bool
 
 // ---- Expiry
 
-fn age(touched: u64, time: u64) -> u64
-    ensures { λ r. ⌜ r ≡ time - touched ⌝ }
-{
-    if touched <= time { time - touched } else { 0 }
-}
-
-pub fn is_live(used: bool, touched: u64, lifetime: u64, time: u64) -> bool
-    ensures { λ r. ⌜ r ≡ (used && ltb (time - touched) lifetime) ⌝ }
-{
-    used & (age(touched, time) < lifetime)
-}
-
 fn empty_state() -> BlockState
     ensures { λ r. ⌜ r ≡ nothing ⌝ }
 {
@@ -128,17 +115,10 @@ pub fn free_entry() -> Entry
 pub fn swept_entry(e: Entry, lifetime: u64, time: u64) -> Entry
     ensures { λ r. ⌜ r ≡ swept lifetime time e ⌝ }
 {
-    if is_live(e.used, e.touched, lifetime, time) {
+    if expiry::is_live(e.used, e.touched, lifetime, time) {
         return e;
     }
     free_entry()
-}
-
-pub fn is_expired(used: bool, touched: u64, lifetime: u64, time: u64) -> bool
-    ensures { λ r. ⌜ r ≡ (used && not (ltb (time - touched) lifetime)) ⌝ }
-{
-    let idle = age(touched, time);
-    used & !(idle < lifetime)
 }
 
 // ---- The start of a call

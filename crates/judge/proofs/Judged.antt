@@ -14,11 +14,12 @@ use Rattle.block_state.proofs.Fits.{assembled-most}
 use Rattle.block_table.specs.declared.Table.{Table}
 use Rattle.keys.specs.Keys.{Name, keyOk}
 use Rattle.entries.specs.declared.Entry.{Entry}
-use Rattle.entries.specs.Entries.{entryOk}
-use Rattle.block_table.specs.Table.{tableOk, distinct, sweep, at}
+use Rattle.entries.specs.Entries.{entryOk, sweep}
+use Rattle.block_table.specs.Table.{tableOk, distinct, at}
 use Rattle.places.specs.declared.Place.{Place as Spot}
 use Rattle.places.specs.declared.Place.the-variants.{At}
-use Rattle.places.specs.Places.{place, placeOf, opened}
+use Rattle.key_place.specs.Place.{place}
+use Rattle.places.specs.Places.{placeOf, opened}
 use Rattle.places.specs.declared.Sight.{Sight}
 use Rattle.places.specs.Sight.{placeIn, indexOf, sightAt, Sees}
 use Rattle.keys.specs.Lists.{all}

@@ -7,7 +7,8 @@ use lib.Dec.{leb, ltb}
 use Rattle.config.specs.declared.Config.{Config}
 use Rattle.block_table.specs.declared.Table.{Table}
 use Rattle.keys.specs.Keys.{Name, keyOk}
-use Rattle.block_table.specs.Table.{tableOk, sweep}
+use Rattle.entries.specs.Entries.{sweep}
+use Rattle.block_table.specs.Table.{tableOk}
 use Rattle.places.specs.declared.Place.{Place as Spot}
 use Rattle.places.specs.declared.Place.the-variants.{At, None, OffLimits}
 use Rattle.places.specs.Places.{placeOf}

@@ -16,7 +16,8 @@ use Rattle.block_state.specs.Message.{What, request, response}
 use Rattle.entries.specs.declared.Entry.{Entry}
 use Rattle.block_table.specs.Table.{at, tableWith}
 use Rattle.block_table.proofs.TableFits.{table-fits}
-use Rattle.places.specs.Places.{place, opened}
+use Rattle.key_place.specs.Place.{place}
+use Rattle.places.specs.Places.{opened}
 use Rattle.places.proofs.Places.{opened-own, opened-new}
 use Rattle.places.proofs.Put.{opened-fits}
 use Rattle.judge.specs.Limits.{memoriesOk}

@@ -12,7 +12,7 @@ use borrow.Author.Tests.{lt-ltb, le-ltb, ltb-true, ltb-false}
 use Rattle.entries.specs.declared.Entry.{Entry}
 use Rattle.keys.specs.Lists.{find}
 use Rattle.entries.specs.Entries.{holds, unused}
-use Rattle.places.specs.Places.{place}
+use Rattle.key_place.specs.Place.{place}
 use Rattle.lent.specs.declared.Seen.{Seen}
 use Rattle.lent.specs.Row.{firstOf, seenAs, seenNext}
 

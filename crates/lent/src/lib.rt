@@ -6,9 +6,8 @@ use entries::Entry;
 use replies::Reply;
 ghost use mathlib.Core.Path.{_≡_};
 ghost use Rattle.block_state.specs.Contract.{asking, replying};
-ghost use Rattle.entries.specs.Entries.{holds};
-ghost use Rattle.block_table.specs.Table.{sweep};
-ghost use Rattle.places.specs.Places.{place};
+ghost use Rattle.entries.specs.Entries.{holds, sweep};
+ghost use Rattle.key_place.specs.Place.{place};
 ghost use Rattle.lent_steps.specs.Lent.{requestLent, responseLent, Leaves};
 ghost use Rattle.lent.specs.Row.{firstOf, seenNext};
 

@@ -21,7 +21,7 @@ use Rattle.entries.proofs.Entries.{holds-own}
 use Rattle.block_table.specs.Table.{at}
 use Rattle.block_table.proofs.Row.{Unique, at-sweep, at-set}
 use Rattle.block_table.proofs.TableFits.{row, row-length, row-unique}
-use Rattle.places.specs.Places.{place}
+use Rattle.key_place.specs.Place.{place}
 use Rattle.places.proofs.Places.{place-most, place-new, place-unheld, opened-key}
 use Rattle.call.specs.Call.{World, Call, Done, callAt, rowOf, call}
 use Rattle.call.proofs.Frame.{WorldFits, call-fits, call-cases}

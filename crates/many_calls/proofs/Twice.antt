@@ -27,7 +27,8 @@ use Rattle.request_step.specs.Step.{stepRequest}
 use Rattle.keys.specs.Keys.{Name, keyOk}
 use Rattle.entries.specs.declared.Entry.{Entry}
 use Rattle.block_table.proofs.TableFits.{row}
-use Rattle.places.specs.Places.{place, opened}
+use Rattle.key_place.specs.Place.{place}
+use Rattle.places.specs.Places.{opened}
 use Rattle.call.specs.Call.{World, Call, whatOk, call}
 use Rattle.call.proofs.Frame.{WorldFits, fits-limits, key-within, request-took, call-fits}
 use Rattle.one_call.specs.Handler.{entryAt}

@@ -38,7 +38,8 @@ use Rattle.request_block1.specs.Block1.{badForm, notNext, lengthMet, takenAs, t
 use Rattle.request_step.specs.Step.{onTaken, block1Given, onNegotiated, stepRequest}
 use Rattle.response_step.specs.Step.{chunked, onReply, stepResponse}
 use Rattle.entries.specs.declared.Entry.{Entry}
-use Rattle.places.specs.Places.{place, opened}
+use Rattle.key_place.specs.Place.{place}
+use Rattle.places.specs.Places.{opened}
 use Rattle.call.specs.Call.{World, Call, Done, done, callAt, rowOf, withinLimits, call}
 use Rattle.one_call.specs.Agreed.{requestAgrees}
 

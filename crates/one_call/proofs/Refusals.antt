@@ -22,7 +22,7 @@ use Rattle.block_state.specs.Step.{Left, left}
 use Rattle.block_table.specs.Table.{at}
 use Rattle.block_table.proofs.Row.{at-set-same}
 use Rattle.block_table.proofs.TableFits.{row-length}
-use Rattle.places.specs.Places.{place}
+use Rattle.key_place.specs.Place.{place}
 use Rattle.call.specs.Call.{World, Call, Done, callAt, rowOf, call}
 use Rattle.call.proofs.Frame.{world-fits}
 use Rattle.pairing.proofs.Pairing.{refusal-number}

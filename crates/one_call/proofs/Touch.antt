@@ -15,7 +15,8 @@ use Rattle.block_state.specs.Step.{left}
 use Rattle.request_step.specs.Step.{stepRequest}
 use Rattle.response_step.specs.Step.{stepResponse}
 use Rattle.entries.specs.declared.Entry.{Entry}
-use Rattle.places.specs.Places.{place, opened}
+use Rattle.key_place.specs.Place.{place}
+use Rattle.places.specs.Places.{opened}
 use Rattle.call.specs.Call.{World, Call, callAt, rowOf, withinLimits, call}
 use Rattle.call.proofs.Frame.{WorldFits, world-fits, key-within, call-placed}
 use Rattle.one_call.specs.Touch.{Placed, RefusesTo}

@@ -6,7 +6,8 @@ use lib.ListN.{length}
 use Rattle.config.specs.declared.Config.{Config}
 use Rattle.block_state.specs.declared.Answer.the-variants.{Refused}
 use Rattle.block_state.specs.Message.{Request, Response, request, response}
-use Rattle.places.specs.Places.{place, opened}
+use Rattle.key_place.specs.Place.{place}
+use Rattle.places.specs.Places.{opened}
 use Rattle.call.specs.Call.{World, Call, rowOf}
 use Rattle.one_call.specs.Handler.{Handler, entryAt}
 use Rattle.one_call.specs.Touch.{touched}

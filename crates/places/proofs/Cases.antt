@@ -12,16 +12,17 @@ use Rattle.config.specs.declared.Config.{Config}
 use Rattle.block_table.specs.declared.Table.{Table}
 use Rattle.keys.specs.Lists.{find, all}
 use Rattle.keys.specs.Keys.{Name, tagOf}
-use Rattle.entries.specs.Entries.{entryOk}
-use Rattle.block_table.specs.Table.{distinct, tableOk, sweep}
+use Rattle.entries.specs.Entries.{entryOk, sweep}
+use Rattle.block_table.specs.Table.{distinct, tableOk}
 use Rattle.places.specs.declared.Place.{Place}
 use Rattle.places.specs.declared.Place.the-variants.{OffLimits}
-use Rattle.places.specs.Places.{place, standing, placeOf}
+use Rattle.key_place.specs.Place.{place}
+use Rattle.places.specs.Places.{standing, placeOf}
 use Rattle.entries.specs.Quick.{holdsLive, notLive}
 use Rattle.block_table.specs.Quick.{tagsFrom}
 use Rattle.block_table.proofs.Quick.{tags-length, distinct-by}
-use Rattle.block_table.proofs.Turns.{nil}
-use Rattle.places.proofs.Unswept.{place-kept, place-new}
+use Rattle.entries.proofs.Turns.{nil}
+use Rattle.key_place.proofs.Unswept.{place-kept, place-new}
 use Rattle.places.proofs.Tagged.{tagged-holds, tagged-none}
 
 module _ (c : Config) (t : Table) (k : Name) (lifetime time : ℕ) where

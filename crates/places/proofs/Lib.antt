@@ -1,5 +1,4 @@
 pub mod Places
-pub mod Unswept
 pub mod Tagged
 pub mod Cases
 pub mod Looks

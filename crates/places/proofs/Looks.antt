@@ -13,14 +13,16 @@ use Rattle.pieces.proofs.Tests.{and-left, and-right, by-cases}
 use Rattle.keys.specs.Lists.{find, all}
 use Rattle.keys.specs.Keys.{Name, keyOk, tagOf}
 use Rattle.keys.proofs.Turns.{drop-step, all-go, all-end, find-go, find-here}
+use Rattle.expiry.specs.Expiry.{liveBy, expiredBy}
 use Rattle.entries.specs.declared.Entry.{Entry}
-use Rattle.entries.specs.Entries.{free as unheld, entryOk}
+use Rattle.entries.specs.Entries.{free as unheld, entryOk, sweep}
 use Rattle.entries.specs.Quick.{holdsLive, notLive, sized, unexpired}
 use Rattle.entries.proofs.Cases.{live-as, unexpired-as}
 use Rattle.block_table.specs.declared.Table.{Table}
-use Rattle.block_table.specs.Table.{distinct, sweep, at}
+use Rattle.block_table.specs.Table.{distinct, at}
 use Rattle.block_table.specs.Quick.{tagsFrom}
-use Rattle.block_table.proofs.Turns.{nil, getD-any, freed-go, freed-end}
+use Rattle.entries.proofs.Turns.{nil}
+use Rattle.block_table.proofs.Turns.{getD-any, freed-go, freed-end}
 use Rattle.places.specs.declared.Seen.{Seen}
 use Rattle.places.specs.declared.Sight.{Sight}
 use Rattle.places.specs.declared.Place.{Place}
@@ -35,7 +37,7 @@ not-not false = refl
 
 -- what one turn makes of what was seen, by what the code tests
 pub seen-by : (c : Config) (clock time : ℕ) (s : Seen) (i : ℕ) (e : Entry) (ok gone lives b : Bool) → ok ≡ entryOk c clock e
-    → gone ≡ (e .used && not (ltb (time - e .touched) (c .lifetime))) → lives ≡ (e .used && ltb (time - e .touched) (c .lifetime)) → (leb 16 (s .free) && not lives) ≡ b
+    → gone ≡ expiredBy (e .used) (e .touched) (c .lifetime) time → lives ≡ liveBy (e .used) (e .touched) (c .lifetime) time → (leb 16 (s .free) && not lives) ≡ b
     → _≡_ {A = Seen} (record { ok = s .ok && ok; freed = s .freed || gone; free = cond b i (s .free) }) (seenNext c clock time s i e)
 seen-by c clock time s i e ok gone lives b is-ok is-gone is-live is-first =
     let old : gone ≡ not (unexpired (c .lifetime) time e) = sym (not-not gone) ∙ ap not (sym (unexpired-as (c .lifetime) time e gone is-gone)) in

@@ -15,7 +15,8 @@ use Rattle.keys.specs.Lists.{find}
 use Rattle.keys.specs.Keys.{Name, same, keyOf, stored}
 use Rattle.entries.specs.Entries.{inUse, free, holds, unused}
 use Rattle.block_table.specs.Table.{at}
-use Rattle.places.specs.Places.{place, opened}
+use Rattle.key_place.specs.Place.{place}
+use Rattle.places.specs.Places.{opened}
 use Rattle.keys.proofs.Lists.{find-le, find-hit, find-before, find-at-most, find-is, find-none}
 use Rattle.keys.proofs.Keys.{same-refl, key-stored}
 use Rattle.entries.proofs.Entries.{holds-used, holds-key, holds-one, holds-new}

@@ -14,7 +14,8 @@ use Rattle.block_table.specs.declared.Table.{Table}
 use Rattle.keys.specs.Keys.{Name, keyOk}
 use Rattle.entries.specs.Entries.{inUse, entryOk}
 use Rattle.block_table.specs.Table.{at, tableWith}
-use Rattle.places.specs.Places.{place, opened}
+use Rattle.key_place.specs.Place.{place}
+use Rattle.places.specs.Places.{opened}
 use Rattle.keys.proofs.Keys.{same-eq, stored-ok}
 use Rattle.entries.proofs.Entries.{holds-new, EntryFits, entry-fits, fits-entry}
 use Rattle.block_table.proofs.Row.{at-set, unique-set}

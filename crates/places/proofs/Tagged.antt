@@ -18,7 +18,7 @@ use Rattle.block_table.specs.Quick.{tagsFrom}
 use Rattle.keys.proofs.Lists.{find-hit, find-before, find-at-most, find-is, find-none}
 use Rattle.entries.proofs.Quick.{untagged}
 use Rattle.block_table.proofs.Quick.{tags-at, tags-length}
-use Rattle.block_table.proofs.Turns.{nil}
+use Rattle.entries.proofs.Turns.{nil}
 
 -- ---- no number stands twice
 

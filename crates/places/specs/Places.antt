@@ -1,19 +1,15 @@
--- Document 01, "Table and clock": the place of a key, once the row is swept, and the entry that a call on it starts from.
+-- Document 01, "Table and clock": the place of a key as a value, and the entry that a call on it starts from.
 use Prim.Native.Nat.{ℕ}
 use mathlib.Core.Bool.{cond}
 use mathlib.Core.List.{List}
 use lib.Dec.{ltb}
 use Rattle.entries.specs.declared.Entry.{Entry}
-use Rattle.keys.specs.Lists.{find}
 use Rattle.keys.specs.Keys.{Name, stored}
-use Rattle.entries.specs.Entries.{startFrom, holds, unused}
+use Rattle.entries.specs.Entries.{startFrom}
 use Rattle.block_table.specs.Table.{at}
+use Rattle.key_place.specs.Place.{place}
 use Rattle.places.specs.declared.Place.{Place}
 use Rattle.places.specs.declared.Place.the-variants.{At, None}
-
--- The index of its own entry; else "a new key takes the lowest free entry"; else 16, the length of the row.
-unfoldable pub place : Name → List Entry → ℕ
-place k l = cond (ltb (find (holds k) l) 16) (find (holds k) l) (find unused l)
 
 -- An index of the row as a place.
 abbrev pub standing : ℕ → Place

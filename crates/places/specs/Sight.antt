@@ -8,10 +8,10 @@ use Rattle.config.specs.declared.Config.{Config}
 use Rattle.keys.specs.Lists.{all}
 use Rattle.keys.specs.Keys.{Name, keyOk}
 use Rattle.entries.specs.declared.Entry.{Entry}
-use Rattle.entries.specs.Entries.{entryOk}
+use Rattle.entries.specs.Entries.{entryOk, sweep}
 use Rattle.entries.specs.Quick.{notLive, sized, unexpired}
 use Rattle.block_table.specs.declared.Table.{Table}
-use Rattle.block_table.specs.Table.{tableOk, sweep, at}
+use Rattle.block_table.specs.Table.{tableOk, at}
 use Rattle.places.specs.declared.Seen.{Seen}
 use Rattle.places.specs.declared.Sight.{Sight}
 use Rattle.places.specs.declared.Place.{Place}

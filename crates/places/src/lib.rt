@@ -11,11 +11,12 @@ ghost use lib.ListN.{length};
 ghost use lib.Dec.{eqb};
 ghost use Rattle.keys.specs.Lists.{find};
 ghost use Rattle.keys.specs.Keys.{Name, keyOf, namedOf};
-ghost use Rattle.block_table.specs.Table.{distinct, sweep};
+ghost use Rattle.entries.specs.Entries.{sweep};
+ghost use Rattle.block_table.specs.Table.{distinct};
 ghost use Rattle.places.specs.declared.Place.the-variants.{OffLimits};
-ghost use Rattle.places.specs.Places.{place, standing, placeOf};
+ghost use Rattle.places.specs.Places.{standing, placeOf};
 ghost use Rattle.places.specs.Sight.{index, indexOf, Sees, seenNext, quickPlace};
-ghost use Rattle.entries.specs.Quick.{holdsLive, notLive, sized};
+ghost use Rattle.entries.specs.Quick.{sized};
 
 // The place of a key in the row that a sweep would leave.
 pub enum Place {
@@ -57,69 +58,18 @@ fn narrow(x: usize) -> u32
     x as u32
 }
 
-// The entry is live and holds the key.
-fn holds_live(e: Entry, lifetime: u64, time: u64, key: Key) -> bool
-    ensures { λ r. ⌜ r ≡ holdsLive lifetime time (keyOf key) e ⌝ }
-{
-    if entries::is_live(e.used, e.touched, lifetime, time) {
-        let stored = e.key;
-        return keys::same_key(key, stored);
-    }
-    false
-}
-
-// ---- Byte by byte, which is slow: only where two tags are equal
-
-fn find_key(entries: [Entry; 16], lifetime: u64, time: u64, key: Key) -> usize
-    ensures { λ r. ⌜ r ≡ find (holdsLive lifetime time (keyOf key)) entries ⌝ }
-{
-    let mut i = 0;
-    while i < 16 {
-        let e = entries[i];
-        if holds_live(e, lifetime, time, key) {
-            return i;
-        }
-        i += 1;
-    }
-    16
-}
-
-fn find_free(entries: [Entry; 16], lifetime: u64, time: u64) -> usize
-    ensures { λ r. ⌜ r ≡ find (notLive lifetime time) entries ⌝ }
-{
-    let mut at = 0;
-    while at < 16 {
-        if !entries::is_live(entries[at].used, entries[at].touched, lifetime, time) {
-            return at;
-        }
-        at += 1;
-    }
-    16
-}
-
-// The place of the key in the row that a sweep would leave, found without building that row; 16 if there is none.
-fn place_of(entries: [Entry; 16], lifetime: u64, time: u64, key: Key) -> usize
-    ensures { λ r. ⌜ r ≡ place (keyOf key) (sweep lifetime time entries) ⌝ }
-{
-    let i = find_key(entries, lifetime, time, key);
-    if i < 16 {
-        return i;
-    }
-    find_free(entries, lifetime, time)
-}
-
 fn standing(i: usize) -> Place
     ensures { λ r. ⌜ r ≡ standing i ⌝ }
 {
     if i < 16 { Place::At(i) } else { Place::None }
 }
 
-// The same as a place; off its limits if two entries in use have one key.
+// The place found byte by byte, which is slow: only where two tags are equal. Off its limits if two entries in use have one key.
 fn close_place(entries: [Entry; 16], lifetime: u64, time: u64, key: Key) -> Place
     ensures { λ r. ⌜ r ≡ cond (distinct entries) (placeOf (keyOf key) (sweep lifetime time entries)) OffLimits ⌝ }
 {
     if block_table::all_distinct(entries) {
-        return standing(place_of(entries, lifetime, time, key));
+        return standing(key_place::place_of(entries, lifetime, time, key));
     }
     Place::OffLimits
 }
@@ -145,8 +95,8 @@ fn see(seen: Seen, i: usize, e: Entry, config: Config, clock: u64, time: u64) ->
     ensures { λ r. ⌜ (r ≡ seenNext config clock time seen i e) × (sized e ≡ true) ⌝ }
 {
     let ok = seen.ok & entries::entry_ok(config, clock, e);
-    let freed = seen.freed | entries::is_expired(e.used, e.touched, config.lifetime, time);
-    let live = entries::is_live(e.used, e.touched, config.lifetime, time);
+    let freed = seen.freed | expiry::is_expired(e.used, e.touched, config.lifetime, time);
+    let live = expiry::is_live(e.used, e.touched, config.lifetime, time);
     if (16 <= seen.free) & !live {
         return Seen { ok, freed, free: i };
     }
@@ -225,7 +175,7 @@ pub fn look(config: Config, table: Table, time: u64, named: NamedKey) -> Sight
     let key = named.key;
     let first = find_tag(tags, named.tag);
     let own = entries[index(first)];
-    let held = holds_live(own, config.lifetime, time, key);
+    let held = key_place::holds_live(own, config.lifetime, time, key);
     let place = match quick_place(seen, digest::apart(tags), first, held) {
         Quick::Sure(place) => place,
         Quick::TagsEqual => close_place(entries, config.lifetime, time, key),

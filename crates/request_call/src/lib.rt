@@ -12,7 +12,7 @@ ghost use mathlib.Core.Path.{_≡_};
 ghost use mathlib.Core.List.{List};
 ghost use Prim.Native.Nat.{ℕ};
 ghost use lib.ListN.{length};
-ghost use Rattle.block_table.specs.Table.{sweep};
+ghost use Rattle.entries.specs.Entries.{sweep};
 ghost use Rattle.places.specs.Places.{opened};
 ghost use Rattle.keys.specs.Keys.{Name};
 ghost use Rattle.judge.specs.Verdict.{lengths};

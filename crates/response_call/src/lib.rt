@@ -13,7 +13,7 @@ ghost use Prim.Native.Nat.{ℕ};
 ghost use lib.ListN.{length};
 ghost use Rattle.block_state.specs.Message.{response};
 ghost use Rattle.block_state.specs.Contract.{replying};
-ghost use Rattle.block_table.specs.Table.{sweep};
+ghost use Rattle.entries.specs.Entries.{sweep};
 ghost use Rattle.places.specs.Places.{opened};
 ghost use Rattle.keys.specs.Keys.{Name};
 ghost use Rattle.judge.specs.Verdict.{lengths};

@@ -5,9 +5,9 @@ use Rattle.block_state.specs.declared.Answer.the-variants.{Refused}
 use Rattle.block_state.specs.declared.Stepped.{Stepped}
 use Rattle.keys.specs.declared.Key.{Key}
 use Rattle.entries.specs.declared.Entry.{Entry}
-use Rattle.entries.specs.Entries.{inUse, startFrom, swept}
+use Rattle.entries.specs.Entries.{inUse, startFrom, swept, sweep}
 use Rattle.block_table.specs.declared.Table.{Table}
-use Rattle.block_table.specs.Table.{sweep, tableWith}
+use Rattle.block_table.specs.Table.{tableWith}
 use Rattle.places.specs.declared.Sight.{Sight}
 use Rattle.table_change.specs.declared.Change.{Change}
 

@@ -4,7 +4,7 @@ use native.Mathlib.Omega.{arith}
 use lib.ListN.{length, drop}
 use borrow.Author.Tests.{not-true, not-false}
 use Rattle.block_table.specs.Table.{distinct}
-use Rattle.block_table.proofs.Turns.{nil}
+use Rattle.entries.proofs.Turns.{nil}
 use Rattle.block_table.proofs.Quick.{row-go, row-no, row-end}
 use borrow.Author.Needs.{needs}
 use Rattle.block_table.proofs.all_distinct.Statement.{statement}

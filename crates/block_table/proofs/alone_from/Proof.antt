@@ -6,7 +6,7 @@ use lib.ListN.{length, drop}
 use Rattle.entries.specs.Entries.{clash}
 use Rattle.block_table.specs.Quick.{alone}
 use Rattle.keys.proofs.Turns.{all-go, all-no, all-end}
-use Rattle.block_table.proofs.Turns.{nil}
+use Rattle.entries.proofs.Turns.{nil}
 use borrow.Author.Needs.{needs}
 use Rattle.block_table.proofs.alone_from.Statement.{statement}
 use Rattle.block_table.proofs.alone_from.Tie as tie

@@ -6,8 +6,7 @@ use native.Mathlib.Omega.{arith}
 use lib.ListN.{length, drop, take, length-set, drop-of-length-le}
 use lib.Seq.{take-all}
 use borrow.Author.Tests.{not-true, not-false}
-use Rattle.entries.specs.Entries.{swept}
-use Rattle.block_table.specs.Table.{sweep}
+use Rattle.entries.specs.Entries.{swept, sweep}
 use Rattle.entries.proofs.Cases.{live-as}
 use Rattle.block_table.proofs.Turns.{map-set, map-keep}
 use Rattle.entries.proofs.Entries.{swept-live, swept-dead}

@@ -48,10 +48,9 @@ use denote.Triple.Table.{entered, cited}
 use denote.Triple.Walked.{says, Stays, stay-slice, stay-none-slice, stay-none, walkOf, goes-none, goes-none-slice, goes-slice, Walks, ends-at, walked, walk-meets}
 use denote.Exit.{yes}
 use Rattle.entries.specs.declared.Entry.{Entry}
-use Rattle.entries.specs.Entries.{swept}
-use Rattle.block_table.specs.Table.{sweep}
-use Rattle.places.specs.Places.{place}
-use Rattle.block_table.proofs.Turns.{nil}
+use Rattle.entries.specs.Entries.{swept, sweep}
+use Rattle.key_place.specs.Place.{place}
+use Rattle.entries.proofs.Turns.{nil}
 use Rattle.entries.proofs.Entry as T
 use Rattle.entries.proofs.Entry.Laws as T′
 use Rattle.lent.specs.declared.Seen.{Seen}

@@ -7,9 +7,10 @@ use lib.ListN.{length, take}
 use lib.Seq.{take-all}
 use Rattle.keys.specs.Keys.{keyOf}
 use Rattle.keys.proofs.Keys.{named-ok, named-read, named-tag}
-use Rattle.block_table.specs.Table.{distinct, sweep}
+use Rattle.entries.specs.Entries.{sweep}
+use Rattle.block_table.specs.Table.{distinct}
 use Rattle.block_table.specs.Quick.{tagsFrom}
-use Rattle.block_table.proofs.Turns.{nil}
+use Rattle.entries.proofs.Turns.{nil}
 use Rattle.block_table.proofs.Quick.{tags-go, tags-length}
 use Rattle.places.specs.declared.Place.the-variants.{OffLimits}
 use Rattle.places.specs.declared.Quick.{Quick}

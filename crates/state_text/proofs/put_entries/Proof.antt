@@ -1,7 +1,7 @@
 use Prim.Native.Nat.{_-_}
 use mathlib.Core.Path.{_≡_}
 use lib.ListN.{length}
-use Rattle.block_table.proofs.Turns.{nil}
+use Rattle.entries.proofs.Turns.{nil}
 use Rattle.state_text.proofs.Entries.{Shown, shown-start, shown-turn, shown-none, shown-some}
 use borrow.Author.Needs.{needs}
 use Rattle.state_text.proofs.put_entries.Statement.{statement}

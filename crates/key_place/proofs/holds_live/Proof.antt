@@ -1,8 +1,8 @@
 use mathlib.Core.Path.{sym, _∙_}
 use Rattle.entries.proofs.Cases.{live-as, held-expired, held-as}
 use borrow.Author.Needs.{needs}
-use Rattle.places.proofs.holds_live.Statement.{statement}
-use Rattle.places.proofs.holds_live.Tie as tie
+use Rattle.key_place.proofs.holds_live.Statement.{statement}
+use Rattle.key_place.proofs.holds_live.Tie as tie
 
 live : tie.Need-returns
 live c =

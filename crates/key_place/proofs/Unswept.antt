@@ -7,9 +7,8 @@ use borrow.Author.Tests.{lt-ltb, le-ltb}
 use Rattle.entries.specs.declared.Entry.{Entry}
 use Rattle.keys.specs.Lists.{find}
 use Rattle.keys.specs.Keys.{Name}
-use Rattle.entries.specs.Entries.{holds, swept, unused}
-use Rattle.block_table.specs.Table.{sweep}
-use Rattle.places.specs.Places.{place}
+use Rattle.entries.specs.Entries.{holds, swept, sweep, unused}
+use Rattle.key_place.specs.Place.{place}
 use Rattle.entries.specs.Quick.{holdsLive, notLive}
 use Rattle.entries.proofs.Cases.{holds-swept, unused-swept}
 

@@ -1,8 +1,8 @@
 use mathlib.Core.Path.{sym, _∙_}
-use Rattle.places.proofs.Unswept.{place-kept, place-new}
+use Rattle.key_place.proofs.Unswept.{place-kept, place-new}
 use borrow.Author.Needs.{needs}
-use Rattle.places.proofs.place_of.Statement.{statement}
-use Rattle.places.proofs.place_of.Tie as tie
+use Rattle.key_place.proofs.place_of.Statement.{statement}
+use Rattle.key_place.proofs.place_of.Tie as tie
 
 own : tie.Need-returns
 own c = sym (place-kept _ _ _ _ _ (c .before .find-key .ensures) (c .if1 .taken))

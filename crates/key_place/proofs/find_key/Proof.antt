@@ -6,10 +6,10 @@ use Rattle.keys.specs.Lists.{find}
 use Rattle.keys.specs.Keys.{keyOf}
 use Rattle.entries.specs.Quick.{holdsLive}
 use Rattle.keys.proofs.Turns.{find-go, find-here, find-end}
-use Rattle.block_table.proofs.Turns.{nil}
+use Rattle.entries.proofs.Turns.{nil}
 use borrow.Author.Needs.{needs}
-use Rattle.places.proofs.find_key.Statement.{statement}
-use Rattle.places.proofs.find_key.Tie as tie
+use Rattle.key_place.proofs.find_key.Statement.{statement}
+use Rattle.key_place.proofs.find_key.Tie as tie
 
 abbrev Inv-loop : tie.InvT-loop
 Inv-loop lifetime time key entries i₀ i =

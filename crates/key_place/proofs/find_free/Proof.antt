@@ -8,10 +8,10 @@ use Rattle.keys.specs.Lists.{find}
 use Rattle.entries.specs.Quick.{notLive}
 use Rattle.keys.proofs.Turns.{find-go, find-here, find-end}
 use Rattle.entries.proofs.Cases.{live-as}
-use Rattle.block_table.proofs.Turns.{nil}
+use Rattle.entries.proofs.Turns.{nil}
 use borrow.Author.Needs.{needs}
-use Rattle.places.proofs.find_free.Statement.{statement}
-use Rattle.places.proofs.find_free.Tie as tie
+use Rattle.key_place.proofs.find_free.Statement.{statement}
+use Rattle.key_place.proofs.find_free.Tie as tie
 
 abbrev Inv-loop : tie.InvT-loop
 Inv-loop lifetime time entries at₀ at =

@@ -1,0 +1,23 @@
+// Whether an entry that was touched at a time is live still, or is expired.
+ghost use mathlib.Core.Path.{_≡_};
+ghost use Prim.Native.Nat.{_-_};
+ghost use Rattle.expiry.specs.Expiry.{liveBy, expiredBy};
+
+fn age(touched: u64, time: u64) -> u64
+    ensures { λ r. ⌜ r ≡ time - touched ⌝ }
+{
+    if touched <= time { time - touched } else { 0 }
+}
+
+pub fn is_live(used: bool, touched: u64, lifetime: u64, time: u64) -> bool
+    ensures { λ r. ⌜ r ≡ liveBy used touched lifetime time ⌝ }
+{
+    used & (age(touched, time) < lifetime)
+}
+
+pub fn is_expired(used: bool, touched: u64, lifetime: u64, time: u64) -> bool
+    ensures { λ r. ⌜ r ≡ expiredBy used touched lifetime time ⌝ }
+{
+    let idle = age(touched, time);
+    used & !(idle < lifetime)
+}
