@@ -1,7 +1,7 @@
 use mathlib.Core.Path.{_∙_}
 use borrow.Author.Needs.{needs}
-use Rattle.answers.proofs.parts.served_chunk.Statement.{statement}
-use Rattle.answers.proofs.parts.served_chunk.Tie as tie
+use Rattle.answers.proofs.served_chunk.Statement.{statement}
+use Rattle.answers.proofs.served_chunk.Tie as tie
 
 returns : tie.Need-returns
 returns c =

@@ -1,9 +1,9 @@
 use mathlib.Core.Path.{sym, ap, _∙_}
-use Rattle.answers.specs.declared.Source.{Source}
-use Rattle.answers.specs.Parts.{bytesOf}
+use Rattle.answer_sources.specs.declared.Source.{Source}
+use Rattle.answer_sources.specs.Parts.{bytesOf}
 use borrow.Author.Needs.{needs}
-use Rattle.answers.proofs.parts.bytes_of.Statement.{statement}
-use Rattle.answers.proofs.parts.bytes_of.Tie as tie
+use Rattle.answers.proofs.bytes_of.Statement.{statement}
+use Rattle.answers.proofs.bytes_of.Tie as tie
 
 within : tie.Need-returns-3
 within c =

@@ -1,8 +1,8 @@
 use mathlib.Core.Path.{_∙_}
 use borrow.Author.Tests.{eq-eqb, ne-eqb}
 use borrow.Author.Needs.{needs}
-use Rattle.answers.proofs.parts.sent_source.Statement.{statement}
-use Rattle.answers.proofs.parts.sent_source.Tie as tie
+use Rattle.answer_sources.proofs.sources.sent_source.Statement.{statement}
+use Rattle.answer_sources.proofs.sources.sent_source.Tie as tie
 
 plain : tie.Need-returns
 plain c = rw (eq-eqb (c .before .args .kind) 6 (c .if1 .taken))

@@ -1,7 +1,7 @@
 use mathlib.Core.Path.{_∙_}
 use borrow.Author.Needs.{needs}
-use Rattle.answers.proofs.parts.body.Statement.{statement}
-use Rattle.answers.proofs.parts.body.Tie as tie
+use Rattle.answers.proofs.body.Statement.{statement}
+use Rattle.answers.proofs.body.Tie as tie
 
 returns : tie.Need-returns
 returns c =

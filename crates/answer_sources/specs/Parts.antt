@@ -8,8 +8,8 @@ use Rattle.block_state.specs.declared.Part.{Part}
 use Rattle.block_state.specs.declared.Kind.{Kind}
 use Rattle.block_state.specs.declared.Answer.{Answer}
 use Rattle.apart.specs.Answers.{handed, pass, served, plain, whole, first, kindNumber, said}
-use Rattle.answers.specs.declared.Source.{Source}
-use Rattle.answers.specs.declared.Source.the-variants.{Nothing, Message, Within}
+use Rattle.answer_sources.specs.declared.Source.{Source}
+use Rattle.answer_sources.specs.declared.Source.the-variants.{Nothing, Message, Within}
 
 -- The number of this answer, and whether a number is of this kind.
 abbrev pub numberOf : Answer → ℕ

@@ -1,7 +1,7 @@
 use mathlib.Core.Path.{_∙_}
 use borrow.Author.Needs.{needs}
-use Rattle.answers.proofs.parts.sent_bytes.Statement.{statement}
-use Rattle.answers.proofs.parts.sent_bytes.Tie as tie
+use Rattle.answers.proofs.sent_bytes.Statement.{statement}
+use Rattle.answers.proofs.sent_bytes.Tie as tie
 
 returns : tie.Need-returns
 returns c =

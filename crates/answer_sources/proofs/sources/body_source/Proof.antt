@@ -1,8 +1,8 @@
 use mathlib.Core.Path.{_∙_}
 use borrow.Author.Tests.{eq-eqb, ne-eqb}
 use borrow.Author.Needs.{needs}
-use Rattle.answers.proofs.parts.body_source.Statement.{statement}
-use Rattle.answers.proofs.parts.body_source.Tie as tie
+use Rattle.answer_sources.proofs.sources.body_source.Statement.{statement}
+use Rattle.answer_sources.proofs.sources.body_source.Tie as tie
 
 passed : tie.Need-returns
 passed c = rw (eq-eqb (c .before .args .kind) 4 (c .if1 .taken))
