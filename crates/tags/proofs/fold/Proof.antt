@@ -1,7 +1,7 @@
-use Rattle.digest.specs.Digest.{folded}
+use Rattle.tags.specs.Tags.{folded}
 use borrow.Author.Needs.{needs}
-use Rattle.digest.proofs.fold.Statement.{statement}
-use Rattle.digest.proofs.fold.Tie as tie
+use Rattle.tags.proofs.fold.Statement.{statement}
+use Rattle.tags.proofs.fold.Tie as tie
 
 returns : tie.Need-returns
 unfolding folded

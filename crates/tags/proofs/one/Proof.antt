@@ -1,7 +1,7 @@
 use borrow.Author.Tests.{eq-eqb, ne-eqb}
 use borrow.Author.Needs.{needs}
-use Rattle.digest.proofs.one.Statement.{statement}
-use Rattle.digest.proofs.one.Tie as tie
+use Rattle.tags.proofs.one.Statement.{statement}
+use Rattle.tags.proofs.one.Tie as tie
 
 returns : tie.Need-returns
 returns c = (rw (eq-eqb _ _ (c .if1 .taken)), search needs)

@@ -2,11 +2,11 @@ use mathlib.Core.Path.{_≡_}
 use Prim.Native.Nat.{_≤_, _-_, _+_}
 use native.Mathlib.Omega.{arith}
 use lib.ListN.{length, drop}
-use Rattle.digest.specs.Digest.{times}
-use Rattle.digest.proofs.Counts.{times-go, times-end}
+use Rattle.tags.specs.Tags.{times}
+use Rattle.tags.proofs.Counts.{times-go, times-end}
 use borrow.Author.Needs.{needs}
-use Rattle.digest.proofs.count.Statement.{statement}
-use Rattle.digest.proofs.count.Tie as tie
+use Rattle.tags.proofs.count.Statement.{statement}
+use Rattle.tags.proofs.count.Tie as tie
 
 abbrev Inv-loop : tie.InvT-loop
 Inv-loop d row n₀ i₀ n i = (length row ≡ 16) × ((i ≤ 16) × ((n ≤ i) × (n + times d (drop i row) ≡ times d row)))

@@ -2,11 +2,11 @@ use mathlib.Core.Path.{_≡_, sym}
 use Prim.Native.Nat.{_≤_, _-_, _+_, _*_}
 use native.Mathlib.Omega.{arith}
 use lib.ListN.{length, drop}
-use Rattle.digest.specs.Digest.{pairs}
-use Rattle.digest.proofs.Counts.{pairs-go, pairs-end}
+use Rattle.tags.specs.Tags.{pairs}
+use Rattle.tags.proofs.Counts.{pairs-go, pairs-end}
 use borrow.Author.Needs.{needs}
-use Rattle.digest.proofs.apart.Statement.{statement}
-use Rattle.digest.proofs.apart.Tie as tie
+use Rattle.tags.proofs.apart.Statement.{statement}
+use Rattle.tags.proofs.apart.Tie as tie
 
 abbrev Inv-loop : tie.InvT-loop
 Inv-loop row n₀ i₀ n i = (length row ≡ 16) × ((i ≤ 16) × ((n ≤ 16 * i) × (n + pairs (drop i row) row ≡ pairs row row)))
