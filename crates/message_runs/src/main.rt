@@ -7,6 +7,7 @@ ghost use lib.ListN.{length};
 // More than any of these messages takes.
 const ROOM: usize = 70000;
 
+// The number, and a space.
 fn print_number(n: usize) {
     let mut text = [b' '; 21];
     let at = script_text::put_decimal(&mut text, 0, n as u64);
@@ -99,7 +100,7 @@ fn request(room: usize)
         room,
         0,
         1,
-        b"\x00\x009t",
+        b"\x00\x00\x39\x74",
         &[3, 11],
         &[9, 3],
         b"localhosttv1",
@@ -111,7 +112,16 @@ fn response(room: usize)
     requires { ⌜ room ≤ 70000 ⌝ }
 {
     print_number(room);
-    write(room, 2, 69, b"\x00\x009t", &[], &[], b"", b"Hello World!");
+    write(
+        room,
+        2,
+        69,
+        b"\x00\x00\x39\x74",
+        &[],
+        &[],
+        b"",
+        b"Hello World!",
+    );
 }
 
 // To the last byte of room, and one byte short.

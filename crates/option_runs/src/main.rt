@@ -1,15 +1,16 @@
-// Options at the edges: cut, many, found by number, and asked of the table of lengths. What is printed is compared with stdout.
+// Options at the edges: cut, found by number, asked of the table of lengths, and a great many. What is printed is compared with stdout.
 use message::Found;
 use message::Reading;
 use option_table::Length;
 
+// The number, and a space.
 fn print_number(n: usize) {
     let mut text = [b' '; 21];
     let at = script_text::put_decimal(&mut text, 0, n as u64);
     io::write_all(1, pieces::within(&text, 0, at + 1));
 }
 
-// A value in hex, as far as there is room.
+// A value in hex; nothing where it has more than 32 bytes.
 fn print_value(value: &[u8]) {
     if 32 < value.len() {
         return;
