@@ -10,7 +10,7 @@ use Rattle.pieces.proofs.Tests.{on-test}
 use Rattle.block_state.specs.declared.Part.{Part}
 use Rattle.block_state.specs.declared.Answer.{Answer}
 use Rattle.apart.specs.Answers.{handed, pass, served, said}
-use Rattle.answers.specs.Parts.{is, numberOf, partOf}
+use Rattle.answer_sources.specs.Parts.{is, numberOf, partOf}
 use Rattle.answer_text.specs.Shown.{shownBy, shownOf}
 
 part-short : (m : List ℕ) (p : Part) → length (partOf m p) ≤ length m

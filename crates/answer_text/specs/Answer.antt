@@ -8,7 +8,7 @@ use Rattle.block_state.specs.declared.Kind.the-variants.{Continue, TooLarge, Ha
 use Rattle.block_state.specs.declared.Said.{Said}
 use Rattle.block_state.specs.declared.Answer.{Answer}
 use Rattle.apart.specs.Answers.{continue, tooLarge, plain, refusal, kindNumber, said}
-use Rattle.answers.specs.Parts.{is}
+use Rattle.answer_sources.specs.Parts.{is}
 use Rattle.script_text.specs.Text.{decimal, shown, maybeText, none}
 
 -- The answer's name; a refusal's has its number.

@@ -5,7 +5,7 @@ use mathlib.Core.List.{List}
 use Rattle.block_state.specs.declared.Part.{Part}
 use Rattle.block_state.specs.declared.Answer.{Answer}
 use Rattle.apart.specs.Answers.{handed, pass, served, said}
-use Rattle.answers.specs.Parts.{is, numberOf, partOf}
+use Rattle.answer_sources.specs.Parts.{is, numberOf, partOf}
 
 -- Of an answer of number n, whose part is p: the payload of Pass, else its part of the upload memory for Handed, of the response memory for Served, and of the
 -- payload for Whole and First. The others name the part from 0 to 0, which is empty.

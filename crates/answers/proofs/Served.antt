@@ -12,7 +12,7 @@ use Rattle.block_value.specs.declared.BlockValue.{BlockValue}
 use Rattle.chunks.specs.Chunk.{chunkOf}
 use Rattle.chunks.specs.declared.Chunk.the-variants.{Bytes}
 use Rattle.chunks.proofs.Laws.{chunk-bounds}
-use Rattle.answers.specs.Parts.{partOf}
+use Rattle.answer_sources.specs.Parts.{partOf}
 
 -- Where n bytes of payload are cached from index `at` of the response memory on, and the chunk for b is taken, the part that the answer names
 -- is bytes ks up to min(ks + s, n) of that payload.

@@ -11,8 +11,8 @@ use lib.ListN.{length, getD, take, drop, set, drop-of-length-le}
 use lib.Seq.{take-suc-set, take-suc}
 use lib.Dec.{eqb}
 use borrow.Author.Tests.{eq-eqb}
-use Rattle.digest.specs.Digest.{times}
-use Rattle.digest.proofs.Counts.{Apart}
+use Rattle.tags.specs.Tags.{times}
+use Rattle.tags.proofs.Counts.{Apart}
 use Rattle.entries.specs.declared.Entry.{Entry}
 use Rattle.entries.specs.Entries.{clash}
 use Rattle.block_table.specs.Table.{distinct}

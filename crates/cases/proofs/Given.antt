@@ -17,7 +17,7 @@ use Rattle.negotiation.specs.declared.Negotiated.the-variants.{Block}
 use Rattle.block_state.specs.Message.{request, WhatBytes}
 use Rattle.apart.specs.Answers.{said, served}
 use Rattle.keys.specs.Keys as keys
-use Rattle.answers.specs.Parts.{servedChunk}
+use Rattle.answer_sources.specs.Parts.{servedChunk}
 use Rattle.call.specs.Call.{Call, call, withinLimits}
 use Rattle.one_call.specs.Strict.{BadlyFormed, PassesFive}
 use Rattle.demands.specs.Demand3.{Sent, callOn, block, All, AllBytes, Blocks, Granted}

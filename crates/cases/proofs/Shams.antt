@@ -22,7 +22,7 @@ use Rattle.keys.specs.Keys as keys
 use Rattle.keys.specs.Keys.{Name}
 use Rattle.entries.specs.declared.Entry.{Entry}
 use Rattle.entries.specs.Entries.{free, live}
-use Rattle.answers.specs.Parts.{partOf, bodyOf}
+use Rattle.answer_sources.specs.Parts.{partOf, bodyOf}
 use Rattle.block_table.specs.Table.{freshTable}
 use Rattle.call.specs.Call.{World}
 use Rattle.one_call.specs.Handler.{Handler, entryAt}

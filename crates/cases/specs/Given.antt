@@ -10,7 +10,7 @@ use Rattle.block_state.specs.Message.{request, response}
 use Rattle.apart.specs.Answers.{said, served}
 use Rattle.keys.specs.Keys.{Name}
 use Rattle.block_table.specs.Table.{freshTable}
-use Rattle.answers.specs.Parts.{servedChunk}
+use Rattle.answer_sources.specs.Parts.{servedChunk}
 use Rattle.call.specs.Call.{World, Call, Done, call}
 use Rattle.one_call.specs.Strict.{assembledFor, BadlyFormed, Misplaced, PassesFive}
 use Rattle.demands.specs.Demand3.{after, Sent, callOn, block}

@@ -38,7 +38,7 @@ use Rattle.key_place.specs.Place.{place}
 use Rattle.places.specs.Places.{opened}
 use Rattle.places.proofs.Places.{opened-own, opened-new, opened-key, place-holds, place-of}
 use Rattle.judge.specs.Limits.{configOk}
-use Rattle.answers.specs.Parts.{partOf}
+use Rattle.answer_sources.specs.Parts.{partOf}
 use Rattle.call.specs.Call.{World, Call, whatOk, call}
 use Rattle.call.proofs.Frame.{WorldFits, Took, request-took, call-fits}
 use Rattle.one_call.specs.Handler.{entryAt}

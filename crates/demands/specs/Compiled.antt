@@ -1,7 +1,7 @@
 -- Demand 3 of the compiled calls. Meant c w q w′ a is what both `intercept_request` and `intercept_response` ensure (crates/block_handler/src/lib.rt; RequestEnsures and
 -- ResponseEnsures below say it of the contracts themselves): c is the configuration, w the table and memories that the call is lent, q the call that its
 -- parameters make (requestCall, responseCall), w′ the table that it returns and the memories as it leaves them, and a its answer. The body
--- that is seen is what the function `body` ensures, bodyOf (crates/answers/src/parts.rt). None of the three asks anything of its caller.
+-- that is seen is what the function `body` ensures, bodyOf (crates/answers/src/lib.rt). None of the three asks anything of its caller.
 use Prim.Native.Nat.{ℕ}
 use mathlib.Core.Path.{_≡_}
 use mathlib.Core.List.{List, [], _∷_}
@@ -12,7 +12,7 @@ use borrow.Fn.World.{ArgsD, ResD}
 use borrow.Fn.Kinds.{endedOf}
 use Rattle.config.specs.declared.Config.{Config}
 use Rattle.keys.specs.Keys.{Name}
-use Rattle.answers.specs.Parts.{bodyOf}
+use Rattle.answer_sources.specs.Parts.{bodyOf}
 use Rattle.answers.proofs.body
 use Rattle.call.specs.Call.{World, Call, Done, call}
 use Rattle.call.specs.Contract.{world, requestCall, responseCall, Meant}

@@ -22,7 +22,7 @@ use Rattle.entries.specs.Entries.{holds, live}
 use Rattle.block_table.specs.Table.{freshTable}
 use Rattle.judge.specs.Limits.{configOk, memoriesOk}
 use Rattle.call.specs.Call.{World, Call, Done, withinLimits}
-use Rattle.answers.specs.Parts.{bodyOf}
+use Rattle.answer_sources.specs.Parts.{bodyOf}
 use Rattle.one_call.specs.Handler.{Handler, entryAt}
 
 -- ---- A handler, and what is seen of its run

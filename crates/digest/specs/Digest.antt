@@ -1,9 +1,7 @@
 -- A number that equal keys have in common. What it is does not matter: no contract of a table cites it.
 use mathlib.Core.Path.{_≡_}
 use Prim.Native.Nat.{ℕ, _<_, zero, suc, _+_, _*_, _/_, _%_, _^_}
-use mathlib.Core.List.{List, [], _∷_}
-use mathlib.Core.Bool.{cond}
-use lib.Dec.{eqb}
+use mathlib.Core.List.{List}
 use lib.ListN.{length, getD}
 
 -- Some bytes from i on as one number, the first the lowest; past the end they are 0.
@@ -35,16 +33,3 @@ stirs k (suc j) = stirred (stirs k j) (numberAt 8 k (j * 8))
 -- Of the key alone, and not of the bytes that stand after it where it is stored: so equal keys have equal digests.
 unfoldable pub digestOf : List ℕ → ℕ
 digestOf k = stirred (stirs k (length k / 8)) (numberAt 8 k (length k / 8 * 8))
-
--- A digest as an odd number of 32 bits.
-unfoldable pub folded : ℕ → ℕ
-folded d = (d / 4294967296 * 1812433253 + d % 4294967296 * 974711381) / 33554432 % 2147483648 * 2 + 1
-
--- How often d stands in a row, and how many pairs of places of two rows have equal numbers.
-abbrev pub times : ℕ → List ℕ → ℕ
-times d [] = 0
-times d (x ∷ xs) = cond (eqb x d) 1 0 + times d xs
-
-abbrev pub pairs : List ℕ → List ℕ → ℕ
-pairs [] ys = 0
-pairs (x ∷ xs) ys = times x ys + pairs xs ys

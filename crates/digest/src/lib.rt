@@ -1,10 +1,8 @@
-// A number that equal keys have in common, and whether sixteen numbers all differ: how the keys of a table are told apart without comparing all pairs.
+// A number that equal keys have in common.
 ghost use mathlib.Core.Path.{_≡_};
-ghost use mathlib.Core.Bool.{cond};
-ghost use Prim.Native.Nat.{_+_, _*_, _/_, _%_, _^_, _≤_, _<_};
+ghost use Prim.Native.Nat.{_+_, _%_, _^_, _≤_, _<_};
 ghost use lib.ListN.{take};
-ghost use lib.Dec.{eqb};
-ghost use Rattle.digest.specs.Digest.{Read, turn, stirred, stirs, digestOf, folded, times, pairs};
+ghost use Rattle.digest.specs.Digest.{Read, turn, stirred, stirs, digestOf};
 
 // Two, four and eight bytes as one number. The sums become one load.
 fn pair(key: &[u8; 64], i: usize) -> u64
@@ -82,51 +80,4 @@ pub fn digest(key: [u8; 64], len: usize) -> u64
         return stir(d, part(word(&key, words * 8), len % 8));
     }
     stir(d, 0)
-}
-
-fn mixed(high: u64, low: u64) -> u32
-    requires { ⌜ (high < 4294967296) × (low < 4294967296) ⌝ }
-    ensures { λ r. ⌜ r ≡ (high * 1812433253 + low * 974711381) / 33554432 % 2147483648 * 2 + 1 ⌝ }
-{
-    ((high * 1812433253 + low * 974711381) / 33554432 % 2147483648) as u32 * 2 + 1
-}
-
-// Odd, so that even numbers are left for entries without a key.
-pub fn fold(d: u64) -> u32
-    ensures { λ r. ⌜ r ≡ folded d ⌝ }
-{
-    mixed(d / 4294967296, d % 4294967296)
-}
-
-fn one(x: u32, d: u32) -> u32
-    ensures { λ r. ⌜ (r ≡ cond (eqb x d) 1 0) × (r ≤ 1) ⌝ }
-{
-    if x == d { 1 } else { 0 }
-}
-
-// How often d stands in the row.
-fn count(d: u32, row: [u32; 16]) -> u32
-    ensures { λ r. ⌜ (r ≡ times d row) × (r ≤ 16) ⌝ }
-{
-    let mut n = 0;
-    let mut i = 0;
-    while i < 16 {
-        n += one(row[i], d);
-        i += 1;
-    }
-    n
-}
-
-// No two numbers of the row are equal: each equals itself alone. All 256 pairs are counted, since such a loop is vectorised.
-pub fn apart(row: [u32; 16]) -> bool
-    ensures { λ r. ⌜ r ≡ eqb (pairs row row) 16 ⌝ }
-{
-    let mut n = 0;
-    let mut i = 0;
-    while i < 16 {
-        let d = row[i];
-        n += count(d, row);
-        i += 1;
-    }
-    n == 16
 }

@@ -4,7 +4,8 @@ use mathlib.Core.Bool.{Bool, true, false, cond, _&&_}
 use mathlib.Core.List.{List, [], _∷_, _++_}
 use lib.ListN.{length, take, replicate}
 use lib.Dec.{leb, eqb}
-use Rattle.digest.specs.Digest.{digestOf, folded}
+use Rattle.digest.specs.Digest.{digestOf}
+use Rattle.tags.specs.Tags.{folded}
 use Rattle.keys.specs.declared.Key.{Key}
 use Rattle.keys.specs.declared.NamedKey.{NamedKey}
 use Rattle.keys.specs.Lists.{all}

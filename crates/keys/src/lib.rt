@@ -108,5 +108,5 @@ pub fn tag(key: Key) -> u32
     ensures { λ r. ⌜ r ≡ tagOf (keyOf key) ⌝ }
 {
     let bytes = key.bytes;
-    digest::fold(digest::digest(bytes, cut(bytes, key.len)))
+    tags::fold(digest::digest(bytes, cut(bytes, key.len)))
 }

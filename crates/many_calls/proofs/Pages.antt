@@ -30,7 +30,7 @@ use Rattle.keys.proofs.Keys.{same-refl}
 use Rattle.entries.specs.declared.Entry.{Entry}
 use Rattle.entries.specs.Entries.{inUse}
 use Rattle.block_table.specs.Table.{at}
-use Rattle.answers.specs.Parts.{partOf, servedHead, servedChunk}
+use Rattle.answer_sources.specs.Parts.{partOf, servedHead, servedChunk}
 use Rattle.answers.proofs.Served.{served-shows}
 use Rattle.call.specs.Call.{World, Call, Done, callAt, rowOf, call}
 use Rattle.call.proofs.Frame.{WorldFits, call-cases, call-fits}

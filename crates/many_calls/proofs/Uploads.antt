@@ -37,7 +37,7 @@ use Rattle.block_table.specs.Table.{at}
 use Rattle.places.proofs.Put.{opened-fits}
 use Rattle.call.specs.Call.{World, Call, Done, callAt, rowOf, withinLimits, call}
 use Rattle.call.proofs.Frame.{WorldFits, key-within, call-fits}
-use Rattle.answers.specs.Parts.{partOf, bodyOf}
+use Rattle.answer_sources.specs.Parts.{partOf, bodyOf}
 use Rattle.one_call.specs.Handler.{Handler}
 use Rattle.one_call.proofs.Checks.{passed-next, first-starts, starts-first, meets-all, meets-afresh}
 use Rattle.one_call.proofs.Outcomes.{placeOf, openedOf, TookBlock, spliced-by, none, took, Outcome, refused, past, tooLarge, continued, onwards, serves, outcome, storing-assembled}

@@ -19,7 +19,7 @@ use Rattle.block_state.specs.declared.Answer.{Answer}
 use Rattle.block_state.specs.declared.Answer.the-variants.{Continue, TooLarge, Handed, Pass, Served, Plain, Whole, First, Refused}
 use Rattle.block_state.specs.Message.{Request, What, request, response}
 use Rattle.keys.specs.Keys.{Name, same}
-use Rattle.answers.specs.Parts.{servedHead, servedChunk}
+use Rattle.answer_sources.specs.Parts.{servedHead, servedChunk}
 use Rattle.call.specs.Call.{World, Call}
 use Rattle.one_call.specs.Handler.{Handler}
 use Rattle.demands.specs.Demand3.{after, AllBytes, Fresh}

@@ -1,19 +1,17 @@
 // Messages at the edges: written, and read again. What is printed is compared with stdout.
-use message::Found;
 use message::Reading;
 use message_writer::Writing;
-use option_table::Length;
 ghost use Prim.Native.Nat.{_≤_};
 ghost use lib.ListN.{length};
 
 // More than any of these messages takes.
 const ROOM: usize = 70000;
 
+// The number, and a space.
 fn print_number(n: usize) {
-    let mut text = [0u8; 21];
+    let mut text = [b' '; 21];
     let at = script_text::put_decimal(&mut text, 0, n as u64);
-    io::write_all(1, pieces::within(&text, 0, at));
-    io::write_all(1, b" ");
+    io::write_all(1, pieces::within(&text, 0, at + 1));
 }
 
 // The first bytes, as far as they fit on a line.
@@ -97,17 +95,33 @@ fn write<'a>(
 fn request(room: usize)
     requires { ⌜ room ≤ 70000 ⌝ }
 {
-    let token = [0u8, 0, 57, 116];
     print_number(room);
-    write(room, 0, 1, &token, &[3, 11], &[9, 3], b"localhosttv1", b"");
+    write(
+        room,
+        0,
+        1,
+        b"\x00\x00\x39\x74",
+        &[3, 11],
+        &[9, 3],
+        b"localhosttv1",
+        b"",
+    );
 }
 
 fn response(room: usize)
     requires { ⌜ room ≤ 70000 ⌝ }
 {
-    let token = [0u8, 0, 57, 116];
     print_number(room);
-    write(room, 2, 69, &token, &[], &[], b"", b"Hello World!");
+    write(
+        room,
+        2,
+        69,
+        b"\x00\x00\x39\x74",
+        &[],
+        &[],
+        b"",
+        b"Hello World!",
+    );
 }
 
 // To the last byte of room, and one byte short.
@@ -203,78 +217,9 @@ fn orders() {
     option(0, 1, 0, 0);
 }
 
-// The n-th option of a number.
-fn find(message: &[u8], number: u16, n: usize) {
-    print_number(number as usize);
-    print_number(n);
-    match message::nth_option(message, 4, number, n) {
-        Found::At(value) => print_start(message::part_of(message, value)),
-        Found::Absent => {
-            io::write_all(1, b"absent");
-        }
-    }
-    io::write_all(1, b"\n");
-}
-
-// Two options of the number 11, and none of another.
-fn finds() {
-    let message = [64u8, 1, 93, 31, 177, 97, 2, 98, 98];
-    find(&message, 11, 0);
-    find(&message, 11, 1);
-    find(&message, 11, 2);
-    find(&message, 3, 0);
-}
-
-// Whether the table has a number, and lets its value have so many bytes.
-fn length(number: u16, len: usize) {
-    print_number(number as usize);
-    print_number(len);
-    match option_table::length_allowed(number, len) {
-        Length::Unknown => {
-            io::write_all(1, b"unknown\n");
-        }
-        Length::Allowed => {
-            io::write_all(1, b"allowed\n");
-        }
-        Length::NotAllowed => {
-            io::write_all(1, b"not allowed\n");
-        }
-    }
-}
-
-fn lengths() {
-    length(3, 0);
-    length(3, 1);
-    length(35, 1034);
-    length(35, 1035);
-    length(2, 0);
-    length(65535, 0);
-}
-
-// A million bytes, all but four of them options of one byte each: far more than the stack could hold calls for.
-fn many_options() {
-    let mut message = many();
-    message[0] = 64;
-    message[1] = 1;
-    io::write_all(1, b"999996 options ");
-    print_read(&message);
-    io::write_all(1, b"\n");
-}
-
-// An option cut by a byte.
-fn cut() {
-    io::write_all(1, b"cut ");
-    print_read(&[64u8, 1, 93, 31, 177]);
-    io::write_all(1, b"\n");
-}
-
 // Memory that no proof has to write out.
 fn zeros() -> [u8; 65805] {
     [0u8; 65805]
-}
-
-fn many() -> [u8; 1000000] {
-    [0u8; 1000000]
 }
 
 fn output() -> [u8; ROOM] {
@@ -287,8 +232,4 @@ fn main() {
     empty();
     ranges();
     orders();
-    cut();
-    finds();
-    lengths();
-    many_options();
 }

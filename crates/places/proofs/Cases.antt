@@ -6,8 +6,8 @@ use Prim.Native.Nat.{ℕ, _<_}
 use native.Mathlib.Omega.{arith}
 use lib.ListN.{length, getD}
 use lib.Dec.{eqb}
-use Rattle.digest.specs.Digest.{pairs}
-use Rattle.digest.proofs.Counts.{told-apart}
+use Rattle.tags.specs.Tags.{pairs}
+use Rattle.tags.proofs.Counts.{told-apart}
 use Rattle.config.specs.declared.Config.{Config}
 use Rattle.block_table.specs.declared.Table.{Table}
 use Rattle.keys.specs.Lists.{find, all}

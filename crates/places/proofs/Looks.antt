@@ -7,7 +7,7 @@ use native.Mathlib.Omega.{arith}
 use lib.ListN.{length, getD, drop, drop-of-length-le}
 use lib.Dec.{leb, ltb, eqb}
 use borrow.Author.Tests.{lt-ltb, lt-leb, leb-true, ltb-true}
-use Rattle.digest.specs.Digest.{pairs}
+use Rattle.tags.specs.Tags.{pairs}
 use Rattle.config.specs.declared.Config.{Config}
 use Rattle.pieces.proofs.Tests.{and-left, and-right, by-cases}
 use Rattle.keys.specs.Lists.{find, all}

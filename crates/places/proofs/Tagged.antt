@@ -7,8 +7,8 @@ use native.Mathlib.Omega.{arith}
 use lib.ListN.{length, getD}
 use lib.Dec.{eqb}
 use borrow.Author.Tests.{eqb-true, eqb-false, eq-eqb}
-use Rattle.digest.specs.Digest.{times}
-use Rattle.digest.proofs.Counts.{Apart}
+use Rattle.tags.specs.Tags.{times}
+use Rattle.tags.proofs.Counts.{Apart}
 use Rattle.pieces.proofs.Tests.{by-cases}
 use Rattle.entries.specs.declared.Entry.{Entry}
 use Rattle.keys.specs.Lists.{find}

@@ -176,7 +176,7 @@ pub fn look(config: Config, table: Table, time: u64, named: NamedKey) -> Sight
     let first = find_tag(tags, named.tag);
     let own = entries[index(first)];
     let held = key_place::holds_live(own, config.lifetime, time, key);
-    let place = match quick_place(seen, digest::apart(tags), first, held) {
+    let place = match quick_place(seen, tags::apart(tags), first, held) {
         Quick::Sure(place) => place,
         Quick::TagsEqual => close_place(entries, config.lifetime, time, key),
     };

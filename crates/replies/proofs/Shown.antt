@@ -16,9 +16,9 @@ use Rattle.block_state.specs.State.{recording, recordedBlock}
 use Rattle.block_state.specs.declared.Answer.{Answer}
 use Rattle.block_state.specs.declared.Answer.the-variants.{Continue, TooLarge, Handed, Pass, Served, Plain, Whole, First, Refused}
 use Rattle.pieces.proofs.Tests.{by-cases}
-use Rattle.answers.specs.declared.Source.{Source}
-use Rattle.answers.specs.declared.Source.the-variants.{Nothing, Message, Within}
-use Rattle.answers.specs.Parts.{bytesOf, bodyOf, servedHead, servedChunk, sentBytes}
+use Rattle.answer_sources.specs.declared.Source.{Source}
+use Rattle.answer_sources.specs.declared.Source.the-variants.{Nothing, Message, Within}
+use Rattle.answer_sources.specs.Parts.{bytesOf, bodyOf, servedHead, servedChunk, sentBytes}
 use Rattle.replies.specs.declared.Reply.{Reply}
 use Rattle.replies.specs.Reply.{replyOf}
 use Rattle.replies.specs.Found.{foundIn, bytesAt, bodyIn, servedHeadIn, chunkIn, sentIn}

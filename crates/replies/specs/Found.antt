@@ -4,9 +4,9 @@ use mathlib.Core.Bool.{cond, _&&_}
 use mathlib.Core.List.{List, []}
 use lib.Dec.{leb, eqb}
 use Rattle.pieces.specs.Memory.{part}
-use Rattle.answers.specs.declared.Source.{Source}
-use Rattle.answers.specs.declared.Source.the-variants.{Nothing, Message, Within}
-use Rattle.answers.specs.Parts.{bodySource, servedSource, sentSource}
+use Rattle.answer_sources.specs.declared.Source.{Source}
+use Rattle.answer_sources.specs.declared.Source.the-variants.{Nothing, Message, Within}
+use Rattle.answer_sources.specs.Parts.{bodySource, servedSource, sentSource}
 use Rattle.replies.specs.declared.Found.{Found}
 use Rattle.replies.specs.declared.Reply.{Reply}
 
@@ -25,7 +25,7 @@ bytesAt f message memory =
     cond (eqb (f .place) 1) (part message (f .from) (f .to - f .from))
     (cond (eqb (f .place) 2) (part memory (f .from) (f .to - f .from)) [])
 
--- ---- What the numbers of an answer show, as `bodyOf` and the others of answers say it
+-- ---- What the numbers of an answer show, as `bodyOf` and the others of answer_sources say it
 
 abbrev pub bodyIn : Reply → Source
 bodyIn r = bodySource (r .kind) (r .part)

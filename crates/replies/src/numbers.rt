@@ -1,7 +1,7 @@
 // Answers as numbers, and what the numbers show.
 use crate::Found;
 use crate::Reply;
-use answers::Source;
+use answer_sources::Source;
 use block_state::Answer;
 use block_state::state;
 ghost use mathlib.Core.Path.{_≡_};
@@ -33,28 +33,28 @@ pub fn body_in(reply: Reply) -> Source
     ensures { λ r. ⌜ r ≡ bodyIn reply ⌝ }
 {
     let part = reply.part;
-    answers::body_source(reply.kind, part)
+    answer_sources::body_source(reply.kind, part)
 }
 
 pub fn chunk_in(reply: Reply) -> Source
     ensures { λ r. ⌜ r ≡ chunkIn reply ⌝ }
 {
     let part = reply.part;
-    answers::served_source(reply.kind, part)
+    answer_sources::served_source(reply.kind, part)
 }
 
 pub fn served_head_in(reply: Reply) -> Source
     ensures { λ r. ⌜ r ≡ servedHeadIn reply ⌝ }
 {
     let head = reply.head;
-    answers::served_source(reply.kind, head)
+    answer_sources::served_source(reply.kind, head)
 }
 
 pub fn sent_in(reply: Reply) -> Source
     ensures { λ r. ⌜ r ≡ sentIn reply ⌝ }
 {
     let part = reply.part;
-    answers::sent_source(reply.kind, part)
+    answer_sources::sent_source(reply.kind, part)
 }
 
 fn found(place: u8, from: usize, to: usize) -> Found

@@ -1,5 +1,6 @@
 use mathlib.Core.Path.{_∙_, ap}
-use Rattle.digest.specs.Digest.{digestOf, folded}
+use Rattle.digest.specs.Digest.{digestOf}
+use Rattle.tags.specs.Tags.{folded}
 use Rattle.keys.specs.Keys.{keyOf, tagOf}
 use borrow.Author.Needs.{needs}
 use Rattle.keys.proofs.tag.Statement.{statement}

@@ -3,8 +3,8 @@ use mathlib.Core.Path.{_≡_, sym, ap, _∙_}
 use mathlib.Core.Bool.{Bool, cond, _&&_}
 use lib.Dec.{leb}
 use Rattle.block_state.specs.declared.Part.{Part}
-use Rattle.answers.specs.declared.Source.{Source}
-use Rattle.answers.specs.declared.Source.the-variants.{Within}
+use Rattle.answer_sources.specs.declared.Source.{Source}
+use Rattle.answer_sources.specs.declared.Source.the-variants.{Within}
 use Rattle.replies.specs.declared.Found.{Found}
 use Rattle.replies.specs.Found.{found, foundIn}
 use borrow.Author.Needs.{needs}

@@ -1,6 +1,0 @@
-use borrow.Author.Needs.{needs}
-use Rattle.answers.proofs.parts.source.Statement.{statement}
-use Rattle.answers.proofs.parts.source.Tie as tie
-
-pub source-spec : {M : Type 1} → statement M
-source-spec = tie.close (tie.spec (λ c. rw (c .if1 .taken)) (λ c. search needs))
