@@ -1,4 +1,4 @@
--- A number that equal keys have in common. What it is does not matter: no contract of a table cites it.
+-- A number that equal keys have in common. What it is does not matter: no contract of the handler's two calls, nor of an export, cites it.
 use mathlib.Core.Path.{_≡_}
 use Prim.Native.Nat.{ℕ, _<_, zero, suc, _+_, _*_, _/_, _%_, _^_}
 use mathlib.Core.List.{List}

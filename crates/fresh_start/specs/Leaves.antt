@@ -19,7 +19,7 @@ pub record After : Type 0 where
   pub world : World
   pub text : List ℕ
 
--- An empty table and memories of zeros, as long as the configuration says, within that.
+-- An empty table and memories of zeros, each of sixteen pieces as long as the configuration says, or of the longest.
 unfoldable pub freshWorld : Config → World
 freshWorld c = world freshTable (replicate (memoryOf (c .upload)) 0) (replicate (memoryOf (c .response)) 0)
 

@@ -5,7 +5,7 @@ use Prim.Native.Nat.{ℕ}
 abbrev pub longest : ℕ
 longest = 200000
 
--- Bytes that are read at once, and output that waits at most.
+-- Output that waits at most, and room that is left to read behind the longest line.
 abbrev pub much : ℕ
 much = 65536
 

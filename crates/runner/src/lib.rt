@@ -1,11 +1,10 @@
-// The run of a script, line by line. Both programs are loops over it.
+// The run of a script, line by line, which both programs make.
 use script_state::Step;
 
 mod lines;
 
 pub use lines::run_last;
 pub use lines::run_lines;
-pub use lines::run_script;
 
 // What many lines leave, and where the text starts that has not ended.
 pub struct Rest {

@@ -8,9 +8,8 @@ ghost use lib.ListN.{length, take, drop};
 ghost use Rattle.line_input.specs.Sizes.{much};
 ghost use Rattle.pieces.specs.Memory.{Put};
 ghost use Rattle.buffers.specs.Sizes.{outputSize};
-ghost use Rattle.script_state.specs.Start.{begun};
 ghost use Rattle.line_runner.specs.Line.{Lent};
-ghost use Rattle.runner.specs.Lines.{linesIn, waitsIn, afterLast, lastText, unended, standing, afterScript, waitsAfterScript};
+ghost use Rattle.runner.specs.Lines.{linesIn, waitsIn, afterLast, lastText, unended, standing};
 
 // Runs each line that has ended in the text. The output that is left waits.
 pub fn run_lines(
@@ -71,31 +70,4 @@ pub fn run_last(
     }
     let next = script_state::counted(step);
     run_any(replay, next, text, upload, response, scratch, out)
-}
-
-// A whole script, from its start on: what is left of its output waits.
-pub fn run_script(
-    text: &[u8],
-    upload: &mut [u8],
-    response: &mut [u8],
-    scratch: &mut [u8],
-    out: &mut [u8],
-) -> Step
-    requires { ⌜ Lent (now upload) (now response) (now scratch) (now out) ⌝ }
-    ensures { λ r. ⌜ standing (r .state) (now (upload .exit)) (now (response .exit)) ≡ afterScript (standing begun (now (upload .entry)) (now (response .entry))) (now (text .entry)) ⌝ }
-    ensures { λ r. ⌜ take (r .at) (now (out .exit)) ≡ waitsAfterScript (standing begun (now (upload .entry)) (now (response .entry))) (now (text .entry)) ⌝ }
-    ensures { λ r. ⌜ r .at ≤ outputSize ⌝ }
-{
-    let first = script_state::start(out);
-    let rest = run_lines(false, first, text, upload, response, scratch, out);
-    let from = rest.from;
-    run_last(
-        false,
-        rest.step,
-        &text[from..],
-        upload,
-        response,
-        scratch,
-        out,
-    )
 }

@@ -23,7 +23,7 @@ pub data Said : Type 0 where
 
 -- ---- what six fields say
 
--- What both kinds of line have: a time, a key, a count of options and a payload.
+-- What both kinds of line have: a time, a key, a bare length and a payload.
 unfoldable pub isCall : List Bytes → Bool
 isCall fs = isNumber (at fs 0) && (isNumber (at fs 2) && (isBytes (at fs 1) && isBytes (at fs 5)))
 

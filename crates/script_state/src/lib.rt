@@ -23,7 +23,7 @@ pub struct Step {
     pub at: usize,
 }
 
-// Output that is written at once.
+// Output that waits at most: more is written.
 const MUCH: usize = 65536;
 
 fn script_config() -> Config

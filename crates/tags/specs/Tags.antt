@@ -1,4 +1,4 @@
--- A key's tag, of its digest, and how many tags of a row are equal. What a tag is does not matter: no contract of a table cites it.
+-- A key's tag, of its digest, and how many tags of a row are equal. What a tag is does not matter: no contract of the handler's two calls, nor of an export, cites it.
 use Prim.Native.Nat.{ℕ, _+_, _*_, _/_, _%_}
 use mathlib.Core.List.{List, [], _∷_}
 use mathlib.Core.Bool.{cond}

@@ -1,9 +1,9 @@
 use mathlib.Core.Path.{_∙_}
 use native.Mathlib.Omega.{arith}
 use Rattle.runner.proofs.Lining.{put-waits, rest-of, script-done}
 use borrow.Author.Needs.{needs}
-use Rattle.runner.proofs.lines.run_script.Statement.{statement}
-use Rattle.runner.proofs.lines.run_script.Tie as tie
+use Rattle.blockscript.proofs.run_script.Statement.{statement}
+use Rattle.blockscript.proofs.run_script.Tie as tie
 
 run-last-requires : tie.Need-run-last-requires
 run-last-requires c κs =
