@@ -41,7 +41,15 @@ struct block_handler_config {
  * - a list that is cancelled and sent again shorter keeps the old list's tail behind it;
  * - THE LAST BLOCK SENT TWICE IS A CORRUPT LIST: once a list of n blocks was handed on, its last block again is answered HANDED, and the body is zero bytes in place of
  *   the first n - 1 blocks and then that block. (Past 16384 bytes it is refusal 6.)
- * In strict mode the first hands on the new list alone, and the second gets refusal 9, or, for a list of one block, the same list again. */
+ * In strict mode the first hands on the new list alone, and the second gets refusal 9, or, for a list of one block, the same list again.
+ *
+ * What comes twice: a client whose acknowledgement is lost sends the same message again, under the same message ID. RFC 7252 (section 4.5) has the stack answer such a copy with
+ * the reply that it stored, and make no call. No function here sees a message ID, so a copy that gets through is a new call. In strict mode a middle block then gets refusal 9 (4.08), at
+ * which a client gives up or starts again; the last of two or more gets it too, though its list was handed on. In plain mode a middle block is written over itself, and the last one is the corrupt
+ * list above. In either mode a late copy of a block of one list can be taken into the next list of the key.
+ *
+ * A Block1 option of three bytes counts as absent, in strict mode too: its block is taken for a whole message, and PASS gives it to the application as the list. Take zero bytes off
+ * its front before the call; if three bytes remain, send 4.13 and make no call. */
 
 /* A key's bytes and their number. Bytes past the length are never compared. */
 struct block_handler_key {

@@ -49,9 +49,9 @@ pub struct Request<'a> {
     pub key: &'a [u8],
     /// The length of the message encoded without its payload, at most 65,535.
     pub bare: usize,
-    /// The bytes of its Block1 option.
+    /// The bytes of its Block1 option. More than two count as no option.
     pub block1: Option<&'a [u8]>,
-    /// The bytes of its Block2 option.
+    /// The bytes of its Block2 option. More than two count as no option.
     pub block2: Option<&'a [u8]>,
     /// At most 65,535 bytes.
     pub payload: &'a [u8],

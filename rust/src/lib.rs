@@ -94,6 +94,19 @@
 //! # Ok::<(), Box<dyn std::error::Error>>(())
 //! ```
 //!
+//! # Messages that come twice
+//!
+//! A client whose acknowledgement is lost sends the same message again, under the same message ID. RFC 7252 (section 4.5) has the stack
+//! answer such a copy with the reply that it stored, and make no call. The handler sees no message IDs, so a copy that gets through is a
+//! new call. In strict mode a middle block then gets [`Refusal::NotNext`] (4.08), at which a client gives up or starts again; the last of
+//! two or more gets it too, though its list was handed on; a list of one block is handed on again, the same. In plain mode a middle block
+//! is written over itself, and the last one hands on the corrupt body that [`BlockHandlerConfig::strict`] tells of. In either mode a late
+//! copy of a block of one list can be taken into the next list of the key.
+//!
+//! A Block1 option of three bytes counts as absent, in strict mode too: its block is taken for a whole message, and
+//! [`RequestAnswer::Pass`] gives it to the application as the list. Take zero bytes off its front before the call; if three bytes remain,
+//! send 4.13 and make no call.
+//!
 //! # Building
 //!
 //! The build script looks for `libhandler_c.a` and `libmessage_c.a` in `../target/staticlib`, where `rt staticlib handler_c` and
