@@ -41,13 +41,21 @@ fn main() {
     let mut response = buffers::memory();
     let mut scratch = buffers::scratch();
     let mut out = buffers::output();
-    let n = io::read_full(0, &mut text);
+    let took = line_input::read_full(&mut text);
+    let end = took.end;
     let last = run_script(
-        &text[..n],
+        &text[..end],
         &mut upload,
         &mut response,
         &mut scratch,
         &mut out,
     );
-    line_input::print(&out, last.at);
+    let done = script_state::flushed(&out, last, 0);
+    if end == 8192 {
+        io::write_all(
+            2,
+            b"blockscript: read 8192 bytes and no more; ./replay reads a script of any length\n",
+        );
+    }
+    ending::end(b"blockscript", runner::ended(done, took));
 }

@@ -31,7 +31,9 @@ pub fn begin(
             config,
             table,
             number,
+            unread: state.unread,
         },
         at,
+        written: step.written,
     }
 }

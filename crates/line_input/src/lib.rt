@@ -4,6 +4,7 @@ ghost use mathlib.Core.Bool.{true, cond};
 ghost use Prim.Native.Nat.{_+_, _-_, _≤_, _<_, min};
 ghost use lib.Dec.{eqb};
 ghost use lib.ListN.{length, take, replicate};
+ghost use Rattle.io.specs.Counts.{Counts};
 ghost use Rattle.pieces.specs.Memory.{patch, part};
 ghost use Rattle.line_input.specs.Sizes.{longest, textSize};
 
@@ -50,7 +51,7 @@ pub fn read_on(text: &mut [u8], held: usize) -> Took
 
 // Reads until the text is full, the input has ended or a read fails.
 pub fn read_full(text: &mut [u8]) -> Took
-    ensures { λ r. ⌜ r .end ≤ length (now (text .entry)) ⌝ }
+    ensures { λ r. ⌜ Counts (r .end) (now (text .exit)) ⌝ }
 {
     let mut held = 0;
     let mut took = read_on(text, 0);

@@ -18,13 +18,14 @@ use Rattle.script_state.specs.declared.State.{State}
 use Rattle.pieces.specs.Memory.{Put}
 use Rattle.pieces.proofs.Puts.{put-as}
 use Rattle.line_input.specs.Sizes.{longest}
-use Rattle.script.specs.Line.{lineOf}
-use Rattle.script_print.specs.Run.{worldAfter, textAfter, Runs}
+use Rattle.script.specs.Line.{lineOf, unreadable}
+use Rattle.script_print.specs.Run.{worldAfter, textAfter, stateAfter, Runs}
 use Rattle.buffers.specs.Sizes.{memoryOf, memorySize, lineRoom}
 use Rattle.script_state.specs.declared.Step.{Step}
+use Rattle.script_state.specs.Start.{unreadAfter}
 use Rattle.state_text.specs.State.{stateText}
 use Rattle.fresh_start.specs.Leaves.{After, worldIn, Leaves}
-use Rattle.fresh_start.proofs.Fronts.{fronted, leaves-fronts}
+use Rattle.fresh_start.proofs.Fronts.{left, fronted, leaves-fronts}
 use Rattle.line_runner.specs.Line.{called, controlled, lineRun, calledIn, shownIn, unreadIn, unread, Lent}
 
 -- ---- what a line leaves
@@ -40,22 +41,24 @@ world-by c t up away eu ev = λ i. world t (take (eu i) up) (take (ev i) away)
 
 module _ (s : Step) (up away m : List ℕ) {m′ : List ℕ} where
   leaves-same : (a : After) {at : ℕ} → s .state .config ≡ a .config → worldIn (s .state .config) (s .state .table) up away ≡ a .world
-      → Put m (s .at) (a .text) m′ at → at ≤ s .at + lineRoom → Leaves a s up away m (record { state = s .state; at = at }) up away m′
-  leaves-same a ec ew text room = record { config = ec; world = ew; number = refl; upload = refl; response = refl; text = text; room = room }
+      → Put m (s .at) (a .text) m′ at → at ≤ s .at + lineRoom
+      → Leaves a s up away m (left (s .state .config) (s .state .table) (unreadAfter (a .unread) (s .state .unread)) s at) up away m′
+  leaves-same a ec ew text room =
+      record { config = ec; world = ew; number = refl; unread = refl; upload = refl; response = refl; text = text; room = room; written = refl }
 
-  by-state : {a : After} {x y : State} {at : ℕ} {up′ away′ : List ℕ} → x ≡ y → Leaves a s up away m (record { state = y; at = at }) up′ away′ m′
-      → Leaves a s up away m (record { state = x; at = at }) up′ away′ m′
-  by-state e h = rw e h
+  by-state : {a : After} {x y : State} {at : ℕ} {b : Bool} {up′ away′ : List ℕ} → x ≡ y → b ≡ s .written
+      → Leaves a s up away m (record { state = y; at = at; written = s .written }) up′ away′ m′ → Leaves a s up away m (record { state = x; at = at; written = b }) up′ away′ m′
+  by-state e w h = rw (e, w) h
 
-  -- A line that is too long changes nothing.
-  pub leaves-unread : {z : Step} → z .state ≡ s .state → Put m (s .at) (unreadableText (s .state .number)) m′ (z .at) → z .at ≤ s .at + lineRoom
-      → Leaves (unreadIn s up away) s up away m z up away m′
-  leaves-unread e text room = by-state e (leaves-same (unreadIn s up away) refl refl text room)
+  -- A line that is too long is counted, and changes nothing else.
+  pub leaves-unread : {z : Step} → z .state ≡ stateAfter (s .state) unreadable (s .state .table) → Put m (s .at) (unreadableText (s .state .number)) m′ (z .at)
+      → z .at ≤ s .at + lineRoom → z .written ≡ s .written → Leaves (unreadIn s up away) s up away m z up away m′
+  leaves-unread e text room written = by-state e written (leaves-same (unreadIn s up away) refl refl text room)
 
   module _ {u v : ℕ} (eu : u ≡ memoryOf (s .state .config .upload)) (ev : v ≡ memoryOf (s .state .config .response)) where
     -- The state is shown of the parts.
     pub leaves-shown : {at : ℕ} → Put m (s .at) (stateText (s .state .number) (s .state .table) (take u up) (take v away)) m′ at → at ≤ s .at + lineRoom
-        → Leaves (shownIn s up away) s up away m (record { state = s .state; at = at }) up away m′
+        → Leaves (shownIn s up away) s up away m (record { state = s .state; at = at; written = s .written }) up away m′
     leaves-shown text room =
         let w = world-by (s .state .config) (s .state .table) up away eu ev in
         leaves-same (shownIn s up away) refl refl (put-as text (ap (λ (x : World). stateText (s .state .number) (x .table) (x .upload) (x .response)) w)) room
@@ -66,7 +69,7 @@ module _ (s : Step) (up away m : List ℕ) {m′ : List ℕ} where
         → Leaves (calledIn l s up away) s up away m z (fronted p up u) (fronted q away v) m′
     leaves-called l z p q hu hv lp lq r =
         let w = world-by (s .state .config) (s .state .table) up away eu ev in
-        by-state (r .state)
+        by-state (r .state) (r .written)
         (leaves-fronts (s .state .config) (z .state .table) s up away m eu ev (calledIn l s up away) p q (lp ∙ length-take-le u up (omega (arith, eu)))
         (lq ∙ length-take-le v away (omega (arith, ev))) refl (r .world ∙ ap (λ (x : World). worldAfter (s .state .config) x (lineOf l)) w)
         (put-as (r .text) (ap (λ (x : World). textAfter (s .state .config) x (s .state .number) (lineOf l)) w)) (r .room))

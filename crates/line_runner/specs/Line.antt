@@ -1,7 +1,7 @@
 -- Any line of a script or of a replay.
 use Prim.Native.Nat.{ℕ, _≤_}
 use mathlib.Core.Path.{_≡_}
-use mathlib.Core.Bool.{Bool, cond}
+use mathlib.Core.Bool.{Bool, true, false, cond}
 use mathlib.Core.List.{List}
 use lib.Dec.{ltb}
 use lib.ListN.{length}
@@ -13,17 +13,17 @@ use Rattle.replay_control.specs.declared.Control.{Control}
 use Rattle.replay_control.specs.declared.Control.the-variants.{Fresh, Show, Other}
 use Rattle.replay_control.specs.Control.{controlOf}
 use Rattle.state_text.specs.State.{stateText}
-use Rattle.script_print.specs.Run.{worldAfter, textAfter}
+use Rattle.script_print.specs.Run.{worldAfter, textAfter, isUnread}
 use Rattle.fresh_start.specs.Leaves.{After, fresh, worldIn}
 use Rattle.line_input.specs.Sizes.{longest}
 use Rattle.buffers.specs.Sizes.{scratchSize, memorySize, outputSize}
 use Rattle.script_state.specs.declared.Step.{Step}
 
 abbrev pub stateShown : Config → World → ℕ → After
-stateShown c w n = record { config = c; world = w; text = stateText n (w .table) (w .upload) (w .response) }
+stateShown c w n = record { config = c; world = w; text = stateText n (w .table) (w .upload) (w .response); unread = false }
 
 abbrev pub called : Config → World → ℕ → List ℕ → After
-called c w n l = record { config = c; world = worldAfter c w (lineOf l); text = textAfter c w n (lineOf l) }
+called c w n l = record { config = c; world = worldAfter c w (lineOf l); text = textAfter c w n (lineOf l); unread = isUnread (lineOf l) }
 
 -- A replay's line: a fresh start, the state shown, or a line as a script has it.
 abbrev pub controlled : Control → Config → World → ℕ → List ℕ → After
@@ -32,7 +32,7 @@ controlled Show c w n l = stateShown c w n
 controlled Other c w n l = called c w n l
 
 abbrev pub unread : Config → World → ℕ → After
-unread c w n = record { config = c; world = w; text = unreadableText n }
+unread c w n = record { config = c; world = w; text = unreadableText n; unread = true }
 
 -- A line that is longer than the longest is unreadable; a script of 8 KiB has none.
 unfoldable pub lineRun : Bool → Config → World → ℕ → List ℕ → After

@@ -72,7 +72,11 @@ fn show<'a>(step: Step, upload: &'a [u8], response: &'a [u8], out: &mut [u8]) ->
         &upload[0..u],
         &response[0..v],
     );
-    Step { state, at }
+    Step {
+        state,
+        at,
+        written: step.written,
+    }
 }
 
 // A line of a replay: a fresh start, the state shown, or a line as a script has it.

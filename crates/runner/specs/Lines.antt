@@ -1,5 +1,5 @@
 -- The lines of a text, one after another.
-use Prim.Native.Nat.{ℕ, _+_, _%_, _^_}
+use Prim.Native.Nat.{ℕ}
 use mathlib.Core.Bool.{Bool, false, cond}
 use mathlib.Core.List.{List, [], _∷_, _++_}
 use lib.Dec.{ltb, eqb}
@@ -8,26 +8,29 @@ use Rattle.config.specs.declared.Config.{Config}
 use Rattle.call.specs.Call.{World}
 use Rattle.script_cut.specs.Cut.{cutAt}
 use Rattle.script_state.specs.declared.State.{State}
-use Rattle.script_state.specs.Start.{header}
+use Rattle.script_state.specs.Start.{header, oneMore, unreadAfter}
 use Rattle.fresh_start.specs.Leaves.{After, worldIn}
 use Rattle.line_input.specs.Sizes.{much}
 use Rattle.line_runner.specs.Line.{lineRun}
 
--- Where a script stands: the number is that of the last line.
+-- Where a script stands: the number is that of the last line, and so many lines were unreadable.
 pub record Standing : Type 0 where
   pub config : Config
   pub world : World
   pub number : ℕ
-
--- Lines are counted in 64 bits.
-abbrev pub next : Standing → ℕ
-next s = (s .number + 1) % 2 ^ 64
+  pub unread : ℕ
 
 abbrev pub nextLine : Bool → Standing → List ℕ → After
-nextLine replay s l = lineRun replay (s .config) (s .world) (next s) l
+nextLine replay s l = lineRun replay (s .config) (s .world) (oneMore (s .number)) l
 
 abbrev pub afterLine : Bool → Standing → List ℕ → Standing
-afterLine replay s l = record { config = nextLine replay s l .config; world = nextLine replay s l .world; number = next s }
+afterLine replay s l =
+    record {
+      config = nextLine replay s l .config;
+      world = nextLine replay s l .world;
+      number = oneMore (s .number);
+      unread = unreadAfter (nextLine replay s l .unread) (s .unread);
+    }
 
 -- Each line that has ended is run: all but the last of a text that is cut at its line ends.
 unfoldable pub afterLines : Bool → Standing → List (List ℕ) → Standing
@@ -75,7 +78,7 @@ waitsAfterScript s text =
 -- ---- where the code stands, with what is lent to it
 
 abbrev pub standing : State → List ℕ → List ℕ → Standing
-standing s up away = record { config = s .config; world = worldIn (s .config) (s .table) up away; number = s .number }
+standing s up away = record { config = s .config; world = worldIn (s .config) (s .table) up away; number = s .number; unread = s .unread }
 
 abbrev pub linesIn : Bool → State → List ℕ → List ℕ → List ℕ → Standing
 linesIn replay s up away text = afterLines replay (standing s up away) (cutAt 10 text)

@@ -1,5 +1,9 @@
 // The run of a script, line by line, which both programs make.
+use ending::Ending;
+use line_input::Took;
 use script_state::Step;
+ghost use mathlib.Core.Path.{_≡_};
+ghost use mathlib.Core.Bool.{not};
 
 mod lines;
 
@@ -10,4 +14,15 @@ pub use lines::run_lines;
 pub struct Rest {
     pub step: Step,
     pub from: usize,
+}
+
+// How a program ends, by where its script stands and what its last read took.
+pub fn ended(step: Step, took: Took) -> Ending
+    ensures { λ r. ⌜ r ≡ record { unread = step .state .unread; «not_read» = took .failed; «not_written» = not (step .written) } ⌝ }
+{
+    Ending {
+        unread: step.state.unread,
+        not_read: took.failed,
+        not_written: !step.written,
+    }
 }

@@ -3,6 +3,7 @@ use crate::Rest;
 use line_runner::run_any;
 use script_state::Step;
 ghost use mathlib.Core.Path.{_≡_};
+ghost use mathlib.Core.Bool.{false};
 ghost use Prim.Native.Nat.{_≤_};
 ghost use lib.ListN.{length, take, drop};
 ghost use Rattle.line_input.specs.Sizes.{much};
@@ -26,7 +27,7 @@ pub fn run_lines(
     ensures { λ r. ⌜ standing (r .step .state) (now (upload .exit)) (now (response .exit)) ≡ linesIn replay (step .state) (now (upload .entry)) (now (response .entry)) (now (text .entry)) ⌝ }
     ensures { λ r. ⌜ take (r .step .at) (now (out .exit)) ≡ waitsIn replay (step .state) (now (upload .entry)) (now (response .entry)) (take (step .at) (now (out .entry))) (now (text .entry)) ⌝ }
     ensures { λ r. ⌜ (r .from ≤ length (now (text .entry))) × (drop (r .from) (now (text .entry)) ≡ unended (now (text .entry))) ⌝ }
-    ensures { λ r. ⌜ r .step .at ≤ much ⌝ }
+    ensures { λ r. ⌜ (r .step .at ≤ much) × (step .written ≡ false → r .step .written ≡ false) ⌝ }
 {
     let mut here = step;
     let mut from = 0;
@@ -42,7 +43,7 @@ pub fn run_lines(
             scratch,
             out,
         );
-        here = script_state::flushed(out, ran);
+        here = script_state::flushed(out, ran, script_state::MUCH);
         from = end + 1;
         end = script_cut::mark_from(text, from, b'\n');
     }
@@ -63,7 +64,7 @@ pub fn run_last(
     requires { ⌜ step .at ≤ much ⌝ }
     ensures { λ r. ⌜ standing (r .state) (now (upload .exit)) (now (response .exit)) ≡ afterLast replay (standing (step .state) (now (upload .entry)) (now (response .entry))) (now (text .entry)) ⌝ }
     ensures { λ r. ⌜ Put (now (out .entry)) (step .at) (lastText replay (standing (step .state) (now (upload .entry)) (now (response .entry))) (now (text .entry))) (now (out .exit)) (r .at) ⌝ }
-    ensures { λ r. ⌜ r .at ≤ outputSize ⌝ }
+    ensures { λ r. ⌜ (r .at ≤ outputSize) × (r .written ≡ step .written) ⌝ }
 {
     if text.len() == 0 {
         return step;

@@ -1,6 +1,6 @@
 -- What a line of a script does: the call that it says, on the table and both memories, and the line that is printed.
 use Prim.Native.Nat.{ℕ, _+_, _≤_}
-use mathlib.Core.Bool.{Bool}
+use mathlib.Core.Bool.{Bool, true, false}
 use mathlib.Core.Path.{_≡_}
 use mathlib.Core.List.{List}
 use Rattle.config.specs.declared.Config.{Config}
@@ -17,6 +17,7 @@ use Rattle.answer_text.specs.Shown.{shownOf}
 use Rattle.buffers.specs.Sizes.{lineRoom}
 use Rattle.script_state.specs.declared.State.{State}
 use Rattle.script_state.specs.declared.Step.{Step}
+use Rattle.script_state.specs.Start.{unreadAfter}
 
 -- What is printed of an answer: parts of the payload and of the memories as the call left them.
 abbrev pub answered : State → Answer → List ℕ → List ℕ → List ℕ → List ℕ
@@ -43,16 +44,25 @@ textAfter c w n (request t k b g1 o1 g2 o2 p) = printed n (call c w (requestCall
 textAfter c w n (response t k b own h p) = printed n (call c w (responseCall (responseNumbers t b own) k h p)) p
 textAfter c w n unreadable = unreadableText n
 
--- The state with another table.
+abbrev pub isUnread : Said → Bool
+isUnread (request t k b g1 o1 g2 o2 p) = false
+isUnread (response t k b own h p) = false
+isUnread unreadable = true
+
+-- The state with another table; and after a line that says q.
 abbrev pub withTable : State → Table → State
-withTable s t = record { config = s .config; table = t; number = s .number }
+withTable s t = record { config = s .config; table = t; number = s .number; unread = s .unread }
+
+abbrev pub stateAfter : State → Said → Table → State
+stateAfter s q t = record { config = s .config; table = t; number = s .number; unread = unreadAfter (isUnread q) (s .unread) }
 
 -- A line that says q, run on the world w, leaves w′ and z, and its text in the output m.
 pub record Runs (s : Step) (w : World) (q : Said) (m : List ℕ) (z : Step) (w′ : World) (m′ : List ℕ) : Type 0 where
-  pub state : z .state ≡ withTable (s .state) (w′ .table)
+  pub state : z .state ≡ stateAfter (s .state) q (w′ .table)
   pub world : w′ ≡ worldAfter (s .state .config) w q
   pub text : Put m (s .at) (textAfter (s .state .config) w (s .state .number) q) m′ (z .at)
   pub room : z .at ≤ s .at + lineRoom
+  pub written : z .written ≡ s .written
 
 -- The same with the memories that are lent.
 abbrev pub Ran : Step → List ℕ → List ℕ → Said → List ℕ → Step → List ℕ → List ℕ → List ℕ → Type 0

@@ -24,6 +24,6 @@ askedCall r m =
 
 module _ (s z : Step) (w : World) {m m′ up away : List ℕ} {t : Table} {a : Answer} (fields : List ℕ) where
   pub runs-asked : (r : Request) → Meant (s .state .config) w (askedCall r fields) (world t up away) a → z .state ≡ withTable (s .state) t
-      → Put m (s .at) (answered (s .state) a (between fields (r .call .key) (r .call .payload)) up away) m′ (z .at) → z .at ≤ s .at + lineRoom
+      → Put m (s .at) (answered (s .state) a (between fields (r .call .key) (r .call .payload)) up away) m′ (z .at) → z .at ≤ s .at + lineRoom → z .written ≡ s .written
       → Runs s w (asked r fields) m z (world (z .state .table) up away) m′
   runs-asked r = runs-done {s = s} {z = z} {w = w} {q = asked r fields} (between fields (r .call .key) (r .call .payload)) (call (s .state .config) w (askedCall r fields)) refl refl

@@ -24,6 +24,6 @@ repliedCall r m =
 
 module _ (s z : Step) (w : World) {m m′ up away : List ℕ} {t : Table} {a : Answer} (fields : List ℕ) where
   pub runs-replied : (r : Response) → Meant (s .state .config) w (repliedCall r fields) (world t up away) a → z .state ≡ withTable (s .state) t
-      → Put m (s .at) (answered (s .state) a (between fields (r .call .key) (r .call .payload)) up away) m′ (z .at) → z .at ≤ s .at + lineRoom
+      → Put m (s .at) (answered (s .state) a (between fields (r .call .key) (r .call .payload)) up away) m′ (z .at) → z .at ≤ s .at + lineRoom → z .written ≡ s .written
       → Runs s w (replied r fields) m z (world (z .state .table) up away) m′
   runs-replied r = runs-done {s = s} {z = z} {w = w} {q = replied r fields} (between fields (r .call .key) (r .call .payload)) (call (s .state .config) w (repliedCall r fields)) refl refl

@@ -1,10 +1,11 @@
--- Before the first line of a script.
-use Prim.Native.Nat.{ℕ}
-use mathlib.Core.Bool.{false}
+-- Before the first line of a script, and the count of its lines.
+use Prim.Native.Nat.{ℕ, _+_, _%_, _^_}
+use mathlib.Core.Bool.{Bool, true, false}
 use mathlib.Core.List.{List, [], _∷_}
 use Rattle.config.specs.declared.Config.{Config}
 use Rattle.block_table.specs.Table.{freshTable}
 use Rattle.script_state.specs.declared.State.{State}
+use Rattle.script_state.specs.declared.Step.{Step}
 
 -- `line answer block1 block2 bytes`, and a line end.
 abbrev pub header : List ℕ
@@ -16,4 +17,21 @@ abbrev pub scriptConfig : Config
 scriptConfig = record { strict = false; limit = 64; lifetime = 120000; upload = 2048; response = 1024 }
 
 abbrev pub begun : State
-begun = record { config = scriptConfig; table = freshTable; number = 0 }
+begun = record { config = scriptConfig; table = freshTable; number = 0; unread = 0 }
+
+-- Lines are counted in 64 bits.
+abbrev pub oneMore : ℕ → ℕ
+oneMore n = (n + 1) % 2 ^ 64
+
+abbrev pub countedIn : Step → Step
+countedIn s =
+    record {
+      state = record { config = s .state .config; table = s .state .table; number = oneMore (s .state .number); unread = s .state .unread };
+      at = s .at;
+      written = s .written;
+    }
+
+-- How many lines were unreadable, after one that was or was not.
+abbrev pub unreadAfter : Bool → ℕ → ℕ
+unreadAfter true n = oneMore n
+unreadAfter false n = n

@@ -2,29 +2,31 @@
 use block_table::Table;
 use config::Config;
 ghost use mathlib.Core.Path.{_≡_};
-ghost use Prim.Native.Nat.{_+_, _%_, _^_, _≤_};
-ghost use mathlib.Core.Bool.{cond};
+ghost use Prim.Native.Nat.{_≤_};
+ghost use mathlib.Core.Bool.{true, false, cond};
 ghost use lib.Dec.{ltb};
 ghost use lib.ListN.{length};
 ghost use Rattle.pieces.specs.Memory.{Put};
 ghost use Rattle.line_input.specs.Sizes.{much};
-ghost use Rattle.script_state.specs.Start.{scriptConfig, header, begun};
+ghost use Rattle.script_state.specs.Start.{scriptConfig, header, begun, countedIn};
 
-// Where the script stands: the configuration, the table, and the number of the last line.
+// Where the script stands: the configuration, the table, the number of the last line, and how many lines were unreadable.
 pub struct State {
     pub config: Config,
     pub table: Table,
     pub number: u64,
+    pub unread: u64,
 }
 
-// What a line leaves, and where the next output goes.
+// What a line leaves, where the next output goes, and whether all output that is due was written.
 pub struct Step {
     pub state: State,
     pub at: usize,
+    pub written: bool,
 }
 
-// Output that waits at most: more is written.
-const MUCH: usize = 65536;
+// Output that waits at most while lines are run: more is written.
+pub const MUCH: usize = 65536;
 
 fn script_config() -> Config
     ensures { λ r. ⌜ r ≡ scriptConfig ⌝ }
@@ -44,6 +46,7 @@ pub fn start(out: &mut [u8]) -> Step
     ensures { λ r. ⌜ r .state ≡ begun ⌝ }
     ensures { λ r. ⌜ Put (now (out .entry)) 0 header (now (out .exit)) (r .at) ⌝ }
     ensures { λ r. ⌜ r .at ≤ much ⌝ }
+    ensures { λ r. ⌜ r .written ≡ true ⌝ }
 {
     let at = pieces::put(out, 0, b"line answer block1 block2 bytes\n");
     let table = block_table::fresh();
@@ -53,14 +56,16 @@ pub fn start(out: &mut [u8]) -> Step
             config,
             table,
             number: 0,
+            unread: 0,
         },
         at,
+        written: true,
     }
 }
 
 // One more line is counted.
 pub fn counted(step: Step) -> Step
-    ensures { λ r. ⌜ r ≡ record { state = record { config = step .state .config; table = step .state .table; number = (step .state .number + 1) % 2 ^ 64 }; at = step .at } ⌝ }
+    ensures { λ r. ⌜ r ≡ countedIn step ⌝ }
 {
     let state = step.state;
     let config = state.config;
@@ -70,20 +75,38 @@ pub fn counted(step: Step) -> Step
             config,
             table,
             number: std::num::wrapping_add_u64(state.number, 1),
+            unread: state.unread,
         },
         at: step.at,
+        written: step.written,
     }
 }
 
-// Writes what waits, once it is much.
-pub fn flushed(out: &[u8], step: Step) -> Step
-    requires { ⌜ step .at ≤ length (now out) ⌝ }
-    ensures { λ r. ⌜ r ≡ record { state = step .state; at = cond (ltb much (step .at)) 0 (step .at) } ⌝ }
+// Writes on, unless an earlier write failed.
+fn print_on(written: bool, out: &[u8], at: usize) -> bool
+    requires { ⌜ at ≤ length (now out) ⌝ }
+    ensures { λ r. ⌜ (written ≡ false → r ≡ false) ⌝ }
 {
-    if step.at <= MUCH {
+    if !written {
+        return false;
+    }
+    line_input::print(out, at)
+}
+
+// Writes what waits, where it is more than so much. Once a write has failed nothing more is written.
+pub fn flushed(out: &[u8], step: Step, most: usize) -> Step
+    requires { ⌜ step .at ≤ length (now out) ⌝ }
+    ensures { λ r. ⌜ (r .state ≡ step .state) × (r .at ≡ cond (ltb most (step .at)) 0 (step .at)) ⌝ }
+    ensures { λ r. ⌜ (step .written ≡ false → r .written ≡ false) ⌝ }
+{
+    if step.at <= most {
         return step;
     }
-    line_input::print(out, step.at);
+    let written = print_on(step.written, out, step.at);
     let state = step.state;
-    Step { state, at: 0 }
+    Step {
+        state,
+        at: 0,
+        written,
+    }
 }

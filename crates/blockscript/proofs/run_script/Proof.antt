@@ -17,7 +17,7 @@ run-last-requires c κs =
         fields = omega (arith, lent .fields, kept);
         output = omega (arith, lent .output, kept, begun .start .kept);
       },
-      ran .run-lines .ensures .1 .1 .1,
+      ran .run-lines .ensures .1 .1 .1 .0,
     )
 
 same-length-4 : tie.Need-same-length-4
@@ -37,7 +37,7 @@ returns c =
     (begun .start .ensures .0)
     (put-waits (begun .start .ensures .1 .0)) (lines .0) (lines .1 .0) (rest-of (args .text .now) (ran .run-lines .result .from) ∙ lines .1 .1 .0 .1) (last .run-last .ensures .0)
     (put-waits (last .run-last .ensures .1 .0)) in
-    (done .0, (done .1, last .run-last .ensures .1 .1))
+    (done .0, (done .1, last .run-last .ensures .1 .1 .0))
 
 pub run-script-spec : {M : Type 1} → statement M
 run-script-spec =

@@ -6,7 +6,7 @@ use Rattle.line_runner.proofs.run_any.Tie as tie
 too-long : tie.Need-returns
 too-long c =
     let unread = c .before .before .unread .ensures in
-    leaves-as (long-line _ _ _ _ _ (c .before .before .before .before .if1 .taken)) (leaves-unread _ _ _ _ (unread .0) (unread .1 .0) (unread .1 .1))
+    leaves-as (long-line _ _ _ _ _ (c .before .before .before .before .if1 .taken)) (leaves-unread _ _ _ _ (unread .0) (unread .1 .0) (unread .1 .1 .0) (unread .1 .1 .1))
 
 replayed : tie.Need-returns-2
 replayed c =

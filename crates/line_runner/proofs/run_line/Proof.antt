@@ -38,7 +38,8 @@ returns-3 c =
     let printed = c .before .before in
     let told = printed .before .before in
     let read = told .before .before .before .before in
-    runs-as (runs-unread (printed .unread .ensures .0) (printed .unread .ensures .1 .0) (printed .unread .ensures .1 .1))
+    let unread = printed .unread .ensures in
+    runs-as (runs-unread (unread .0) (unread .1 .0) (unread .1 .1 .0) (unread .1 .1 .1))
     (sym (ap (λ (l : Line). saidBy l (read .read-line .last .1 .0)) (told .enum-told .given .1)) ∙ read .read-line .ensures .0)
 
 pub run-line-spec : {M : Type 1} → statement M

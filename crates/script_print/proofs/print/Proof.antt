@@ -28,7 +28,7 @@ returns c =
       refl,
       (
         put-as (put .put-answer .ensures .0) (ap (λ (b : List ℕ). answerText (args .step .state .number) (args .answer) b) shown),
-        omega (arith, ap length shown, short, put .put-answer .ensures .1),
+        (omega (arith, ap length shown, short, put .put-answer .ensures .1), refl),
       ),
     )
 

@@ -16,7 +16,7 @@ returns c =
     let called = print .before .before .before .before .before .before .before in
     let args = called .before .before .before .before .before .before .before .before .before .before .args in
     runs-asked (args .step) _ (world (args .step .state .table) (args .upload .now) (args .response .now)) (args .scratch .now) (args .r)
-    (called .intercept-request .ensures) (print .print .ensures .0) (print .print .ensures .1 .0) (print .print .ensures .1 .1)
+    (called .intercept-request .ensures) (print .print .ensures .0) (print .print .ensures .1 .0) (print .print .ensures .1 .1 .0) (print .print .ensures .1 .1 .1)
 
 pub ask-spec : {M : Type 1} → statement M
 ask-spec =

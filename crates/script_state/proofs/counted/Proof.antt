@@ -7,7 +7,9 @@ use Rattle.script_state.proofs.counted.Tie as tie
 returns : tie.Need-returns
 returns c =
     let step = c .before .before .before .before .args .step in
-    ap (λ (n : ℕ). record { state = record { config = step .state .config; table = step .state .table; number = n }; at = step .at }) (c .wrapping-add-u64 .ensures)
+    let state = step .state in
+    ap (λ (n : ℕ). record { state = record { config = state .config; table = state .table; number = n; unread = state .unread }; at = step .at; written = step .written })
+    (c .wrapping-add-u64 .ensures)
 
 pub counted-spec : {M : Type 1} → statement M
 counted-spec = tie.close (tie.spec (λ c κs. search needs) returns)

@@ -13,7 +13,7 @@ returns c =
     let start = c .before .before .before .before .before .before in
     let args = start .args in
     let none = none-last (args .replay) (standing (args .step .state) (args .upload .now) (args .response .now)) (args .text .now) (c .if1 .taken) in
-    (none .0, (put-as (put-none _ _ (omega (arith, start .pre .0 .output, start .pre .1))) (none .1), omega (arith, start .pre .1)))
+    (none .0, (put-as (put-none _ _ (omega (arith, start .pre .0 .output, start .pre .1))) (none .1), (omega (arith, start .pre .1), refl)))
 
 run-any-requires : tie.Need-run-any-requires
 run-any-requires c κs =
@@ -29,7 +29,7 @@ returns-2 c =
     let stood = standing (args .step .state) (args .upload .now) (args .response .now) in
     let left = rw (counted .counted .ensures) at (ran .run-any .ensures) in
     let some = some-last (args .replay) stood (args .text .now) (counted .before .if1 .left) in
-    (stands (args .replay) stood (args .text .now) left refl ∙ some .0, (put-as (left .text) (some .1), omega (arith, left .room, start .pre .1)))
+    (stands (args .replay) stood (args .text .now) left refl refl ∙ some .0, (put-as (left .text) (some .1), (omega (arith, left .room, start .pre .1), left .written)))
 
 pub run-last-spec : {M : Type 1} → statement M
 run-last-spec =
