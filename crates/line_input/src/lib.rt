@@ -1,6 +1,6 @@
 // The lines of standard input, of any length: read on, with the text that has not ended kept; and output that is written.
 ghost use mathlib.Core.Path.{_≡_};
-ghost use mathlib.Core.Bool.{cond};
+ghost use mathlib.Core.Bool.{true, cond};
 ghost use Prim.Native.Nat.{_+_, _-_, _≤_, _<_, min};
 ghost use lib.Dec.{eqb};
 ghost use lib.ListN.{length, take, replicate};
@@ -24,14 +24,41 @@ pub fn text() -> [u8; TEXT]
     [0; TEXT]
 }
 
-// Reads on behind the bytes that are held, which stay; where the answer is no more than them, or a read failed, the input has ended.
-pub fn read_on(text: &mut [u8], held: usize) -> usize
+// Where the text ends now, and whether the read failed.
+pub struct Took {
+    pub end: usize,
+    pub failed: bool,
+}
+
+// Reads on behind the bytes that are held, which stay. Where the text ends with them, the input has ended, or the read failed.
+pub fn read_on(text: &mut [u8], held: usize) -> Took
     requires { ⌜ held ≤ length (now text) ⌝ }
-    ensures { λ r. ⌜ (held ≤ r) × (r ≤ length (now (text .entry))) ⌝ }
-    ensures { λ _. ⌜ take held (now (text .exit)) ≡ take held (now (text .entry)) ⌝ }
+    ensures { λ r. ⌜ (held ≤ r .end) × (r .end ≤ length (now (text .entry))) ⌝ }
+    ensures { λ r. ⌜ take held (now (text .exit)) ≡ take held (now (text .entry)) ⌝ }
+    ensures { λ r. ⌜ (r .failed ≡ true → r .end ≡ held) ⌝ }
 {
     let got = libc::read(0, &mut text[held..]);
-    held + io::count(got, &text[held..])
+    if got < 0 {
+        return Took {
+            end: held,
+            failed: true,
+        };
+    }
+    let end = held + io::count(got, &text[held..]);
+    Took { end, failed: false }
+}
+
+// Reads until the text is full, the input has ended or a read fails.
+pub fn read_full(text: &mut [u8]) -> Took
+    ensures { λ r. ⌜ r .end ≤ length (now (text .entry)) ⌝ }
+{
+    let mut held = 0;
+    let mut took = read_on(text, 0);
+    while held < took.end {
+        held = took.end;
+        took = read_on(text, held);
+    }
+    took
 }
 
 // 0 once a read brings nothing; otherwise one fewer. It starts at 2^64 - 1 only so that the loop provably ends.
@@ -63,9 +90,9 @@ pub fn keep(text: &mut [u8], from: usize, end: usize) -> usize
     n
 }
 
-// Writes what waits. No contract can say what is written.
-pub fn print(out: &[u8], at: usize)
+// Writes what waits, and answers whether all of it was written. No contract can say what is written.
+pub fn print(out: &[u8], at: usize) -> bool
     requires { ⌜ at ≤ length (now out) ⌝ }
 {
-    io::write_all(1, &out[0..at]);
+    io::write_all(1, &out[0..at])
 }

@@ -1,0 +1,37 @@
+-- How a program ends: what it says on standard error, and its exit code.
+use Prim.Native.Nat.{ℕ}
+use mathlib.Core.Bool.{Bool, cond, _||_}
+use mathlib.Core.List.{List, [], _∷_, _++_}
+use lib.Dec.{eqb}
+use Rattle.script_text.specs.Text.{decimal}
+use Rattle.ending.specs.declared.Ending.{Ending}
+
+-- 2 where the input could not be read or the output not written; else 1 where a line was unreadable; else 0.
+unfoldable pub exitCode : Ending → ℕ
+exitCode e = cond (e .«not_read» || e .«not_written») 2 (cond (eqb (e .unread) 0) 0 1)
+
+-- `: standard input cannot be read`, and a line end.
+abbrev pub notRead : List ℕ
+notRead =
+    58 ∷ 32 ∷ 115 ∷ 116 ∷ 97 ∷ 110 ∷ 100 ∷ 97 ∷ 114 ∷ 100 ∷ 32 ∷ 105 ∷ 110 ∷ 112 ∷ 117 ∷ 116 ∷ 32 ∷ 99 ∷ 97 ∷ 110 ∷ 110 ∷ 111 ∷ 116 ∷ 32 ∷ 98 ∷ 101 ∷ 32 ∷ 114 ∷ 101 ∷ 97 ∷ 100 ∷ 10 ∷ []
+
+-- `: standard output cannot be written`, and a line end.
+abbrev pub notWritten : List ℕ
+notWritten =
+    58 ∷ 32 ∷ 115 ∷ 116 ∷ 97 ∷ 110 ∷ 100 ∷ 97 ∷ 114 ∷ 100 ∷ 32 ∷ 111 ∷ 117 ∷ 116 ∷ 112 ∷ 117 ∷ 116 ∷ 32 ∷ 99 ∷ 97 ∷ 110 ∷ 110 ∷ 111 ∷ 116 ∷ 32 ∷ 98 ∷ 101 ∷ 32 ∷ 119 ∷ 114 ∷ 105 ∷ 116 ∷ 116 ∷ 101 ∷ 110 ∷ 10 ∷ []
+
+-- `: unreadable lines: `
+abbrev pub unreadLines : List ℕ
+unreadLines =
+    58 ∷ 32 ∷ 117 ∷ 110 ∷ 114 ∷ 101 ∷ 97 ∷ 100 ∷ 97 ∷ 98 ∷ 108 ∷ 101 ∷ 32 ∷ 108 ∷ 105 ∷ 110 ∷ 101 ∷ 115 ∷ 58 ∷ 32 ∷ []
+
+-- A sentence starts with the program's name; it is said if it is true.
+unfoldable pub sentence : Bool → List ℕ → List ℕ → List ℕ
+sentence said program what = cond said (program ++ what) []
+
+unfoldable pub unreadText : List ℕ → ℕ → List ℕ
+unreadText program n = cond (eqb n 0) [] (program ++ (unreadLines ++ (decimal n ++ (10 ∷ []))))
+
+unfoldable pub endingText : List ℕ → Ending → List ℕ
+endingText program e =
+    sentence (e .«not_read») program notRead ++ (sentence (e .«not_written») program notWritten ++ unreadText program (e .unread))
