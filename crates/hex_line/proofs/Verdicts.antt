@@ -17,6 +17,7 @@ use Rattle.script_fields.specs.declared.Decoded.the-variants as decoded
 use Rattle.hex_line.specs.Line.{passing, startOf, endOf, trimmed, lower, isSkipped, badAt, digitsSay, mostDigits, hexOf, bytesOf, Filled}
 use Rattle.hex_line.specs.declared.Hex.{Hex}
 use Rattle.hex_line.specs.declared.Hex.the-variants as hex
+use Rattle.hex_line.specs.declared.Why.the-variants as why
 
 -- ---- digits
 
@@ -50,16 +51,16 @@ pairs-even (x ∷ y ∷ rest) h =
     rw (p .0, q .0, e) (pairs-even rest (q .1))
 
 module _ (start : ℕ) (text : List ℕ) where
-  pub no-digit : (bad : ℕ) → bad ≡ badAt text → bad < length text → hex.NoDigit (start + bad + 1) ≡ digitsSay start text
+  pub no-digit : (bad : ℕ) → bad ≡ badAt text → bad < length text → hex.Unread (why.NoDigit (start + bad + 1)) ≡ digitsSay start text
   unfolding digitsSay
   no-digit bad e h = rw (← e, lt-ltb bad (length text) h)
 
   module _ (h : length text ≤ badAt text) where
-    pub odd-number : pairsDecoded text ≡ decoded.Bad → hex.Odd ≡ digitsSay start text
+    pub odd-number : pairsDecoded text ≡ decoded.Bad → hex.Unread why.Odd ≡ digitsSay start text
     unfolding digitsSay pairsDecoded
     odd-number e = rw (le-ltb (badAt text) (length text) h) (go (eqb (length text % 2) 1) (rw (pairs-even text h) at e))
       where
-        go : (b : Bool) → cond (not b) (decoded.Bytes (length (pairsOf text))) decoded.Bad ≡ decoded.Bad → hex.Odd ≡ cond b hex.Odd (hex.Bytes (length (pairsOf text)))
+        go : (b : Bool) → cond (not b) (decoded.Bytes (length (pairsOf text))) decoded.Bad ≡ decoded.Bad → hex.Unread why.Odd ≡ cond b (hex.Unread why.Odd) (hex.Bytes (length (pairsOf text)))
         go true q = refl
         go false q = absurd (let z : _≡_ {A = ℕ} 0 1 = cc in omega arith)
 
@@ -67,7 +68,7 @@ module _ (start : ℕ) (text : List ℕ) where
     unfolding digitsSay pairsDecoded
     some-bytes n e = rw (le-ltb (badAt text) (length text) h) (go (eqb (length text % 2) 1) (rw (pairs-even text h) at e))
       where
-        go : (b : Bool) → cond (not b) (decoded.Bytes (length (pairsOf text))) decoded.Bad ≡ decoded.Bytes n → hex.Bytes n ≡ cond b hex.Odd (hex.Bytes (length (pairsOf text)))
+        go : (b : Bool) → cond (not b) (decoded.Bytes (length (pairsOf text))) decoded.Bad ≡ decoded.Bytes n → hex.Bytes n ≡ cond b (hex.Unread why.Odd) (hex.Bytes (length (pairsOf text)))
         go true q = absurd (let z : _≡_ {A = ℕ} 0 1 = cc in omega arith)
         go false q = cc
 
@@ -76,9 +77,7 @@ module _ (start : ℕ) (text : List ℕ) where
 abbrev pub hasBytes : Hex → Bool
 hasBytes hex.Skipped = false
 hasBytes (hex.Bytes n) = true
-hasBytes hex.TooLong = false
-hasBytes (hex.NoDigit i) = false
-hasBytes hex.Odd = false
+hasBytes (hex.Unread w) = false
 
 pub not-filled : (r : Hex) (bytes out : List ℕ) → hasBytes r ≡ false → Filled r bytes out
 not-filled r bytes out e n q = absurd (true≢false (sym (ap hasBytes q) ∙ e))
@@ -92,7 +91,7 @@ some-filled text out n h f k q =
 
 -- ---- a line
 
-pub long-line : (line : List ℕ) → longest < length line → hex.TooLong ≡ hexOf line
+pub long-line : (line : List ℕ) → longest < length line → hex.Unread why.TooLong ≡ hexOf line
 unfolding hexOf
 long-line line h = rw (lt-ltb longest (length line) h)
 
@@ -137,7 +136,7 @@ module _ (line : List ℕ) (s e : ℕ) (x : Ends line s e) where
     comment-line c = rw (le-ltb longest (length line) (x .short), cut, first, eq-eqb (getD line s 0) 35 c)
 
     module _ (text : getD line s 0 ≡ 35 → ⊥) where
-      pub too-many : mostDigits < e - s → hex.TooLong ≡ hexOf line
+      pub too-many : mostDigits < e - s → hex.Unread why.TooLong ≡ hexOf line
       unfolding hexOf
       too-many h =
           rw (le-ltb longest (length line) (x .short), cut, first, ne-eqb (getD line s 0) 35 text, text-length, lt-ltb mostDigits (e - s) h)

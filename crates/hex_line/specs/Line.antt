@@ -9,6 +9,7 @@ use Rattle.line_input.specs.Sizes.{longest}
 use Rattle.script_fields.specs.Fields.{isHex, pairsOf}
 use Rattle.hex_line.specs.declared.Hex.{Hex}
 use Rattle.hex_line.specs.declared.Hex.the-variants as hex
+use Rattle.hex_line.specs.declared.Why.the-variants as why
 
 -- ---- the text of a line
 
@@ -52,8 +53,8 @@ badAt text = passing isHex text
 -- What a text says in lower case that `start` bytes stand before.
 unfoldable pub digitsSay : ℕ → List ℕ → Hex
 digitsSay start text =
-    cond (ltb (badAt text) (length text)) (hex.NoDigit (start + badAt text + 1))
-    (cond (eqb (length text % 2) 1) hex.Odd (hex.Bytes (length (pairsOf text))))
+    cond (ltb (badAt text) (length text)) (hex.Unread (why.NoDigit (start + badAt text + 1)))
+    (cond (eqb (length text % 2) 1) (hex.Unread why.Odd) (hex.Bytes (length (pairsOf text))))
 
 -- Two digits for each of 65,535 bytes.
 abbrev pub mostDigits : ℕ
@@ -62,9 +63,9 @@ mostDigits = 131070
 -- A line that is longer than the longest may be cut, so it is too long whatever it holds.
 unfoldable pub hexOf : List ℕ → Hex
 hexOf line =
-    cond (ltb longest (length line)) hex.TooLong
+    cond (ltb longest (length line)) (hex.Unread why.TooLong)
     (cond (isSkipped (trimmed line)) hex.Skipped
-    (cond (ltb mostDigits (length (trimmed line))) hex.TooLong (digitsSay (startOf line) (map lower (trimmed line)))))
+    (cond (ltb mostDigits (length (trimmed line))) (hex.Unread why.TooLong) (digitsSay (startOf line) (map lower (trimmed line)))))
 
 -- The bytes of a line, where it has any.
 unfoldable pub bytesOf : List ℕ → List ℕ
@@ -79,6 +80,4 @@ Filled r bytes out = (n : ℕ) → r ≡ hex.Bytes n → (n ≤ 65535) × (n ≤
 abbrev pub isUnread : Hex → Bool
 isUnread hex.Skipped = false
 isUnread (hex.Bytes n) = false
-isUnread hex.TooLong = true
-isUnread (hex.NoDigit i) = true
-isUnread hex.Odd = true
+isUnread (hex.Unread w) = true

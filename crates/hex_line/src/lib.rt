@@ -12,15 +12,20 @@ ghost use Rattle.hex_line.specs.Line.{isBlank, startOf, endOf, lower, ba
 // Two digits for each of 65,535 bytes.
 const MOST_DIGITS: usize = 131070;
 
+// Why a line is unreadable.
+pub enum Why {
+    TooLong,
+    // The first character that is no hex digit, counted from 1 in the line as it stands.
+    NoDigit(usize),
+    Odd,
+}
+
 pub enum Hex {
     // An empty line, or a comment.
     Skipped,
     // So many bytes.
     Bytes(usize),
-    TooLong,
-    // The first character that is no hex digit, counted from 1 in the line as it stands.
-    NoDigit(usize),
-    Odd,
+    Unread(Why),
 }
 
 fn is_blank(x: u8) -> bool
@@ -98,10 +103,10 @@ fn read_digits(start: usize, text: &[u8], bytes: &mut [u8]) -> Hex
 {
     let bad = bad_at(text);
     if bad < text.len() {
-        return Hex::NoDigit(start + bad + 1);
+        return Hex::Unread(Why::NoDigit(start + bad + 1));
     }
     let Decoded::Bytes(n) = script_fields::decode_pairs(text, bytes) else {
-        return Hex::Odd;
+        return Hex::Unread(Why::Odd);
     };
     Hex::Bytes(n)
 }
@@ -113,7 +118,7 @@ pub fn read_line(line: &[u8], text: &mut [u8], bytes: &mut [u8]) -> Hex
     ensures { λ r. ⌜ Filled r (bytesOf (now (line .entry))) (now (bytes .exit)) ⌝ }
 {
     if line_input::LONGEST < line.len() {
-        return Hex::TooLong;
+        return Hex::Unread(Why::TooLong);
     }
     let start = start_of(line);
     let end = end_of(line);
@@ -125,7 +130,7 @@ pub fn read_line(line: &[u8], text: &mut [u8], bytes: &mut [u8]) -> Hex
     }
     let n = end - start;
     if MOST_DIGITS < n {
-        return Hex::TooLong;
+        return Hex::Unread(Why::TooLong);
     }
     put_lower(text, &line[start..end]);
     read_digits(start, &text[0..n], bytes)
@@ -137,8 +142,6 @@ pub fn is_unread(hex: Hex) -> bool
     match hex {
         Hex::Skipped => false,
         Hex::Bytes(_) => false,
-        Hex::TooLong => true,
-        Hex::NoDigit(_) => true,
-        Hex::Odd => true,
+        Hex::Unread(_) => true,
     }
 }
