@@ -1,6 +1,6 @@
 -- The lines of a text, one after another. Assumes nothing.
 use mathlib.Core.Path.{_≡_, refl, sym, ap, _∙_}
-use mathlib.Core.Bool.{Bool, true, false, cond}
+use mathlib.Core.Bool.{Bool, cond}
 use mathlib.Core.List.{List, [], _∷_, _++_, append-assoc}
 use Prim.Native.Nat.{ℕ, _+_, _-_, _%_, _^_, _≤_, _<_}
 use native.Mathlib.Omega.{arith}
@@ -10,7 +10,7 @@ use Rattle.pieces.specs.Memory.{part, Put}
 use Rattle.pieces.proofs.Memory.{part-patch}
 use Rattle.script_cut.specs.Cut.{cutAt, between, UpTo}
 use Rattle.script_cut.proofs.Splitting.{next-field, last-field}
-use Rattle.hex_line.specs.Line.{hexOf, isUnread}
+use Rattle.hex_line.specs.Line.{passing, endOf, trimmed, isSkipped, hexOf, isUnread}
 use Rattle.coapdump.specs.Lines.{Room, unreadIn, Ended}
 
 -- one line more
@@ -18,6 +18,16 @@ unread-more : (lines : List (List ℕ)) (line : List ℕ) → unreadIn (lines ++
 unfolding unreadIn
 unread-more [] line = omega arith
 unread-more (l ∷ ls) line = omega (arith, unread-more ls line)
+
+-- nothing is no unreadable line, and one line counts by what it says
+pub unread-none : (text : List ℕ) → length text ≡ 0 → unreadIn (text ∷ []) ≡ 0
+unfolding unreadIn hexOf trimmed endOf passing isSkipped
+unread-none [] h = refl
+unread-none (x ∷ xs) h = absurd (omega arith)
+
+pub unread-one : (text : List ℕ) (b : Bool) → b ≡ isUnread (hexOf text) → cond b 1 0 ≡ unreadIn (text ∷ [])
+unfolding unreadIn
+unread-one text b e = ap (λ (t : Bool). cond t 1 0) e ∙ omega arith
 
 -- Some lines are printed, and the next one ends at an index.
 pub record Going (number unread : ℕ) (text : List ℕ) (count bad from end : ℕ) : Type 0 where

@@ -3,11 +3,12 @@
 use ending::Ending;
 ghost use mathlib.Core.Path.{_≡_};
 ghost use mathlib.Core.Bool.{true, cond};
+ghost use mathlib.Core.List.{[], _∷_};
 ghost use Prim.Native.Nat.{_+_, _%_, _^_};
 ghost use lib.ListN.{length, take};
 ghost use Rattle.line_input.specs.Sizes.{textSize};
 ghost use Rattle.hex_line.specs.Line.{hexOf, isUnread};
-ghost use Rattle.coapdump.specs.Lines.{Room, saidOf, Ended};
+ghost use Rattle.coapdump.specs.Lines.{Room, saidOf, unreadIn, Ended};
 
 // Whether a line was unreadable, and whether what it says was written.
 struct Printed {
@@ -60,14 +61,14 @@ fn print_line(
     Printed { unread, written }
 }
 
-// One more where it is so.
-fn counted(n: u64, more: bool) -> u64
-    ensures { λ r. ⌜ r ≡ (n + cond more 1 0) % 2 ^ 64 ⌝ }
+// One more where a line is unreadable.
+fn counted(unread: u64, more: bool) -> u64
+    ensures { λ r. ⌜ r ≡ (unread + cond more 1 0) % 2 ^ 64 ⌝ }
 {
     if more {
-        return std::num::wrapping_add_u64(n, 1);
+        return std::num::wrapping_add_u64(unread, 1);
     }
-    n
+    unread
 }
 
 // Prints each line that has ended in the text, up to a write that fails. No contract can say what is written.
@@ -113,18 +114,19 @@ fn print_lines(
 fn print_last(
     number: u64,
     unread: u64,
-    not_read: bool,
+    failed: bool,
     text: &[u8],
     digits: &mut [u8],
     bytes: &mut [u8],
     out: &mut [u8],
 ) -> Ending
     requires { ⌜ Room (now digits) (now bytes) (now out) ⌝ }
+    ensures { λ r. ⌜ (r .unread ≡ (unread + unreadIn (now (text .entry) ∷ [])) % 2 ^ 64) × (r .«not_read» ≡ failed) ⌝ }
 {
     if text.len() == 0 {
         return Ending {
             unread,
-            not_read,
+            not_read: failed,
             not_written: false,
         };
     }
@@ -137,7 +139,7 @@ fn print_last(
     );
     Ending {
         unread: counted(unread, last.unread),
-        not_read,
+        not_read: failed,
         not_written: !last.written,
     }
 }

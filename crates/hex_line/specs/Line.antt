@@ -41,7 +41,7 @@ lower x = cond (leb 65 x && leb x 90) (x + 32) x
 
 -- ---- what it says
 
--- It is empty, or a comment.
+-- A text that is empty or starts with `#` says nothing.
 unfoldable pub isSkipped : List ℕ → Bool
 isSkipped [] = true
 isSkipped (x ∷ xs) = eqb x 35
@@ -50,7 +50,7 @@ isSkipped (x ∷ xs) = eqb x 35
 abbrev pub badAt : List ℕ → ℕ
 badAt text = passing isHex text
 
--- What a text says in lower case that `start` bytes stand before.
+-- What a text in lower case says, with `start` bytes before it in its line.
 unfoldable pub digitsSay : ℕ → List ℕ → Hex
 digitsSay start text =
     cond (ltb (badAt text) (length text)) (hex.Unread (why.NoDigit (start + badAt text + 1)))

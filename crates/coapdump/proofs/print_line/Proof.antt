@@ -1,10 +1,8 @@
 use mathlib.Core.Path.{ap, _∙_}
-use mathlib.Core.List.{_++_}
-use native.Mathlib.Omega.{arith}
 use borrow.Author.Needs.{needs}
-use Rattle.pieces.proofs.Puts.{put-then, put-as, put-length}
+use Rattle.pieces.proofs.Puts.{put-then, put-as}
 use Rattle.hex_line.specs.Line.{isUnread}
-use Rattle.message_text.specs.Text.{lineText, reasonText}
+use Rattle.message_text.specs.Text.{reasonText}
 use Rattle.coapdump.specs.Lines.{saidOf}
 use Rattle.coapdump.proofs.Lining.{put-first}
 use Rattle.coapdump.proofs.print_line.Statement.{statement}
