@@ -1,14 +1,32 @@
-// CoAP messages in hex on standard input, one a line and any number of them: the parts of each, a line on standard output.
+// CoAP messages in hex on standard input, one a line and any number of them: the parts of each, a line on standard output. Why a line is
+// unreadable goes to standard error.
+use ending::Ending;
 ghost use mathlib.Core.Path.{_≡_};
-ghost use Prim.Native.Nat.{_≤_};
+ghost use mathlib.Core.Bool.{true, cond};
+ghost use mathlib.Core.List.{[], _∷_};
+ghost use Prim.Native.Nat.{_+_, _%_, _^_};
 ghost use lib.ListN.{length, take};
-ghost use Rattle.message_text.specs.Text.{lineText};
-ghost use Rattle.coapdump.specs.Lines.{Ended};
+ghost use Rattle.line_input.specs.Sizes.{textSize};
+ghost use Rattle.hex_line.specs.Line.{hexOf, isUnread};
+ghost use Rattle.coapdump.specs.Lines.{Room, saidOf, unreadIn, Ended};
 
-// How many lines were printed, and where the text starts that has not ended.
+// Whether a line was unreadable, and whether what it says was written.
+struct Printed {
+    unread: bool,
+    written: bool,
+}
+
+// How many lines were printed and how many of them are unreadable, where the text starts that has not ended, and whether all was written.
 struct Rest {
     number: u64,
+    unread: u64,
     from: usize,
+    written: bool,
+}
+
+// The text of the longest line.
+fn digits_buffer() -> [u8; 131070] {
+    [0; 131070]
 }
 
 // The bytes of the longest line.
@@ -16,72 +34,165 @@ fn bytes_buffer() -> [u8; 65535] {
     [0; 65535]
 }
 
-// What the longest line says: 8 bytes for each of its bytes, and 64.
-fn output_buffer() -> [u8; 524344] {
-    [0; 524344]
+// What the longest line says: 8 bytes for each of its bytes, and 64. Why a line is unreadable has room behind it.
+fn output_buffer() -> [u8; 524428] {
+    [0; 524428]
 }
 
 // Each line is written at once, so that none waits for the next. What is written stands at the start of the output.
-fn print_line(number: u64, line: &[u8], bytes: &mut [u8], out: &mut [u8])
-    requires { ⌜ (65535 ≤ length (now bytes)) × (524344 ≤ length (now out)) ⌝ }
-    ensures { λ _. ⌜ take (length (lineText number (now (line .entry)))) (now (out .exit)) ≡ lineText number (now (line .entry)) ⌝ }
+fn print_line(
+    number: u64,
+    line: &[u8],
+    digits: &mut [u8],
+    bytes: &mut [u8],
+    out: &mut [u8],
+) -> Printed
+    requires { ⌜ Room (now digits) (now bytes) (now out) ⌝ }
+    ensures { λ r. ⌜ r .unread ≡ isUnread (hexOf (now (line .entry))) ⌝ }
+    ensures { λ _. ⌜ take (length (saidOf number (now (line .entry)))) (now (out .exit)) ≡ saidOf number (now (line .entry)) ⌝ }
 {
-    let end = message_text::put_line(out, 0, number, line, bytes);
-    line_input::print(out, end);
+    let shown = message_text::put_line(out, 0, number, line, digits, bytes);
+    let end = shown.end;
+    let hex = shown.hex;
+    let last = message_text::put_reason(out, end, number, hex);
+    let unread = hex_line::is_unread(hex);
+    let written = line_input::print(out, end);
+    io::write_all(2, &out[end..last]);
+    Printed { unread, written }
 }
 
-// Prints each line that has ended in the text. No contract can say what is written.
-fn print_lines(number: u64, text: &[u8], bytes: &mut [u8], out: &mut [u8]) -> Rest
-    requires { ⌜ (65535 ≤ length (now bytes)) × (524344 ≤ length (now out)) ⌝ }
-    ensures { λ r. ⌜ Ended number (now (text .entry)) (r .number) (r .from) ⌝ }
+// One more where a line is unreadable.
+fn counted(unread: u64, more: bool) -> u64
+    ensures { λ r. ⌜ r ≡ (unread + cond more 1 0) % 2 ^ 64 ⌝ }
+{
+    if more {
+        return std::num::wrapping_add_u64(unread, 1);
+    }
+    unread
+}
+
+// Prints each line that has ended in the text, up to a write that fails. No contract can say what is written.
+fn print_lines(
+    number: u64,
+    unread: u64,
+    text: &[u8],
+    digits: &mut [u8],
+    bytes: &mut [u8],
+    out: &mut [u8],
+) -> Rest
+    requires { ⌜ Room (now digits) (now bytes) (now out) ⌝ }
+    ensures { λ r. ⌜ (r .written ≡ true → Ended number unread (now (text .entry)) (r .number) (r .unread) (r .from)) ⌝ }
 {
     let mut count = number;
+    let mut bad = unread;
     let mut from = 0;
     let mut end = script_cut::mark_from(text, 0, b'\n');
     while end < text.len() {
         count = std::num::wrapping_add_u64(count, 1);
-        print_line(count, &text[from..end], bytes, out);
+        let printed = print_line(count, &text[from..end], digits, bytes, out);
+        bad = counted(bad, printed.unread);
+        if !printed.written {
+            return Rest {
+                number: count,
+                unread: bad,
+                from,
+                written: false,
+            };
+        }
         from = end + 1;
         end = script_cut::mark_from(text, from, b'\n');
     }
     Rest {
         number: count,
+        unread: bad,
         from,
+        written: true,
     }
 }
 
 // At the end of the input: what has not ended is a line if it is not empty.
-fn print_last(number: u64, text: &[u8], bytes: &mut [u8], out: &mut [u8])
-    requires { ⌜ (65535 ≤ length (now bytes)) × (524344 ≤ length (now out)) ⌝ }
+fn print_last(
+    number: u64,
+    unread: u64,
+    failed: bool,
+    text: &[u8],
+    digits: &mut [u8],
+    bytes: &mut [u8],
+    out: &mut [u8],
+) -> Ending
+    requires { ⌜ Room (now digits) (now bytes) (now out) ⌝ }
+    ensures { λ r. ⌜ (r .unread ≡ (unread + unreadIn (now (text .entry) ∷ [])) % 2 ^ 64) × (r .«not_read» ≡ failed) ⌝ }
 {
     if text.len() == 0 {
-        return;
+        return Ending {
+            unread,
+            not_read: failed,
+            not_written: false,
+        };
     }
-    print_line(std::num::wrapping_add_u64(number, 1), text, bytes, out);
+    let last = print_line(
+        std::num::wrapping_add_u64(number, 1),
+        text,
+        digits,
+        bytes,
+        out,
+    );
+    Ending {
+        unread: counted(unread, last.unread),
+        not_read: failed,
+        not_written: !last.written,
+    }
 }
 
-fn run(text: &mut [u8], bytes: &mut [u8], out: &mut [u8])
-    requires { ⌜ length (now text) ≡ 265537 ⌝ }
-    requires { ⌜ (65535 ≤ length (now bytes)) × (524344 ≤ length (now out)) ⌝ }
-{
-    io::write_all(1, b"N type code id token options payload\n");
-    let mut number = 0;
-    let mut held = 0;
-    let mut end = line_input::read_on(text, 0);
-    let mut turns = line_input::turns_left(u64::MAX, 0, end);
-    while turns > 0 {
-        let rest = print_lines(number, &text[0..end], bytes, out);
-        number = rest.number;
-        held = line_input::keep(text, rest.from, end);
-        end = line_input::read_on(text, held);
-        turns = line_input::turns_left(turns, held, end);
+// A write that failed is the end.
+fn stopped(unread: u64) -> Ending {
+    Ending {
+        unread,
+        not_read: false,
+        not_written: true,
     }
-    print_last(number, &text[0..held], bytes, out);
+}
+
+fn run(text: &mut [u8], digits: &mut [u8], bytes: &mut [u8], out: &mut [u8]) -> Ending
+    requires { ⌜ length (now text) ≡ textSize ⌝ }
+    requires { ⌜ Room (now digits) (now bytes) (now out) ⌝ }
+{
+    if !io::write_all(1, b"N type code id token options payload\n") {
+        return stopped(0);
+    }
+    let mut number = 0;
+    let mut unread = 0;
+    let mut held = 0;
+    let mut took = line_input::read_on(text, 0);
+    let mut turns = line_input::turns_left(u64::MAX, 0, took.end);
+    while turns > 0 {
+        let end = took.end;
+        let rest = print_lines(number, unread, &text[0..end], digits, bytes, out);
+        number = rest.number;
+        unread = rest.unread;
+        if !rest.written {
+            return stopped(unread);
+        }
+        held = line_input::keep(text, rest.from, end);
+        took = line_input::read_on(text, held);
+        turns = line_input::turns_left(turns, held, took.end);
+    }
+    print_last(
+        number,
+        unread,
+        took.failed,
+        &text[0..held],
+        digits,
+        bytes,
+        out,
+    )
 }
 
 fn main() {
     let mut text = line_input::text();
+    let mut digits = digits_buffer();
     let mut bytes = bytes_buffer();
     let mut out = output_buffer();
-    run(&mut text, &mut bytes, &mut out);
+    let ended = run(&mut text, &mut digits, &mut bytes, &mut out);
+    ending::end(b"coapdump", ended);
 }

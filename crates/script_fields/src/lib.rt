@@ -48,7 +48,7 @@ pub fn number_field(text: &[u8]) -> Number
 }
 
 // The number of a hex digit; 16 for any other byte.
-fn nibble_of(x: u8) -> u8
+pub fn nibble_of(x: u8) -> u8
     ensures { λ r. ⌜ (r ≡ nibble x) × (r ≤ 16) ⌝ }
 {
     if (48 <= x) & (x <= 57) {
