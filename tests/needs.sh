@@ -28,7 +28,7 @@ need_rt() {
 # The unchanged Rust's files, where COAP_LITE_SRC names them or beside the repository.
 need_rust_files() {
     local file
-    COAP_LITE_SRC=${COAP_LITE_SRC:-$top/../shared/docs/src}
+    COAP_LITE_SRC=${COAP_LITE_SRC:-$(dirname "$top")/shared/docs/src}
     for file in error option_value block_handler/mod block_handler/block_value; do
         [ -f "$COAP_LITE_SRC/src/$file.rs" ] ||
             stop "needs the files of coap-lite 0.13.3: set COAP_LITE_SRC to the folder that has its src/ (there is no $COAP_LITE_SRC/src/$file.rs)"
