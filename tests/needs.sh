@@ -14,11 +14,11 @@ is_at_least() {
 
 # rust/Cargo.toml asks for this version.
 has_cargo() {
-    is_at_least cargo 1.84
+    is_at_least cargo 1.84 && is_at_least "${RUSTC:-rustc}" 1.84
 }
 
 need_cargo() {
-    has_cargo || stop "needs cargo 1.84 or later on the path"
+    has_cargo || stop "needs cargo and rustc, 1.84 or later, on the path"
 }
 
 need_rt() {
@@ -46,10 +46,12 @@ need_archives() {
     BLOCK_HANDLER_LIB=$(realpath "$BLOCK_HANDLER_LIB")
 }
 
-# The folder of the kit's tools for this processor: the loader, its libraries and, where the processor is not x86-64, an emulator.
-kit_tools() {
-    local home
+# Puts the words that run a program for x86-64 in $runner: the kit's loader with its libraries and, on another processor, its emulator.
+find_runner() {
+    local home tools
     home=${RATTLE_HOME:-$(dirname "$(dirname "$(readlink -f "$(command -v rt)")")")}
     [ ! -d "$home/on/$(uname -m)" ] || home=$home/on/$(uname -m)
-    echo "$home/toolchain"
+    tools=$home/toolchain
+    runner=("$tools/lib/ld-linux-x86-64.so.2" --library-path "$tools/lib")
+    [ ! -x "$tools/bin/qemu-x86_64" ] || runner=("$tools/bin/qemu-x86_64" "${runner[@]}")
 }
