@@ -1,6 +1,7 @@
 //! Random calls on both sides, under many configurations, and a soak.
 
 use std::collections::BTreeMap;
+use std::env;
 use std::time::{Duration, Instant};
 
 use super::calls::{Calls, Random};
@@ -46,7 +47,12 @@ fn large_pieces() {
     println!("large pieces: {:?}", pair.seen);
 }
 
-/// Five million calls for sixteen keys, on one handler.
+/// How many calls a soak makes: SOAK_CALLS says fewer, where a program is emulated.
+fn soak_calls() -> u64 {
+    env::var("SOAK_CALLS").map_or(5_000_000, |n| n.parse().expect("SOAK_CALLS is a number"))
+}
+
+/// Calls for sixteen keys, on one handler.
 fn soak(strict: bool) {
     let config = BlockHandlerConfig {
         max_total_message_size: 128,
@@ -56,9 +62,10 @@ fn soak(strict: bool) {
         max_response: 256,
     };
     let mut pair = Pair::new(config);
+    let calls = soak_calls();
     let start = Instant::now();
-    pair.run(&mut Calls::new(3, config, 16), 5_000_000);
-    println!("soak, strict {strict}: 5,000,000 calls, 0 differences, {:.1} s: {:?}", start.elapsed().as_secs_f64(), pair.seen);
+    pair.run(&mut Calls::new(3, config, 16), calls);
+    println!("soak, strict {strict}: {calls} calls, 0 differences, {:.1} s: {:?}", start.elapsed().as_secs_f64(), pair.seen);
 }
 
 // A test of its own for each mode, so that the two run side by side.
