@@ -66,14 +66,14 @@ fn put_ending(out: &mut [u8], at: usize, program: &[u8], ending: Ending) -> usiz
         at,
         not_read,
         program,
-        b": standard input cannot be read\n",
+        b": cannot read standard input\n",
     );
     let l = put_sentence(
         out,
         k,
         not_written,
         program,
-        b": standard output cannot be written\n",
+        b": cannot write standard output\n",
     );
     put_unread(out, l, program, ending.unread)
 }

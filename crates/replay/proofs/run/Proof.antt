@@ -77,7 +77,9 @@ read-on-requires-2 c κs =
     omega (arith, kept .keep .ensures .0, kept .keep .kept, loop .loop .inv .0, read loop .read-on .kept, start loop .pre .0)
 
 turns-left-requires-2 : tie.Need-turns-left-requires-2 Inv-loop μ-loop
-turns-left-requires-2 c κs = let lines = ran (c .before .before .before .before .before .before .before .before .before .before) in lines .before .before .before .before .before .before .before .loop-test .taken
+turns-left-requires-2 c κs =
+    let lines = ran (c .before .before .before .before .before .before .before .before .before .before) in
+    lines .before .before .before .before .before .before .before .loop-test .taken
 
 loop-again : tie.Need-loop-again Inv-loop μ-loop
 loop-again c =
@@ -92,35 +94,24 @@ loop-again c =
 
 -- ---- a write that failed
 
+-- where a write failed, back to what was kept
+abbrev kept : tie.After-ended Inv-loop μ-loop → tie.After-keep Inv-loop μ-loop
+kept c = c .before .before .before .before .before .before .before
+
 failed-text : tie.Need-same-length Inv-loop μ-loop
-failed-text c =
-    let kept = c .before .before .before .before .before .before .before in
-    let loop = looped (ran kept) in
-    omega (arith, kept .keep .kept, ran kept .run-lines .kept, loop .loop .inv .0, read loop .read-on .kept, begun loop .start .kept)
+failed-text c = let loop = looped (ran (kept c)) in omega (arith, kept c .keep .kept, loop .loop .inv .0, read loop .read-on .kept)
 
 failed-upload : tie.Need-same-length-2 Inv-loop μ-loop
-failed-upload c =
-    let kept = c .before .before .before .before .before .before .before in
-    let loop = looped (ran kept) in
-    omega (arith, kept .keep .kept, ran kept .run-lines .kept, loop .loop .inv .0, read loop .read-on .kept, begun loop .start .kept)
+failed-upload c = let lines = ran (kept c) in omega (arith, lines .run-lines .kept, looped lines .loop .inv .0, begun (looped lines) .start .kept)
 
 failed-response : tie.Need-same-length-3 Inv-loop μ-loop
-failed-response c =
-    let kept = c .before .before .before .before .before .before .before in
-    let loop = looped (ran kept) in
-    omega (arith, kept .keep .kept, ran kept .run-lines .kept, loop .loop .inv .0, read loop .read-on .kept, begun loop .start .kept)
+failed-response c = let lines = ran (kept c) in omega (arith, lines .run-lines .kept, looped lines .loop .inv .0, begun (looped lines) .start .kept)
 
 failed-scratch : tie.Need-same-length-4 Inv-loop μ-loop
-failed-scratch c =
-    let kept = c .before .before .before .before .before .before .before in
-    let loop = looped (ran kept) in
-    omega (arith, kept .keep .kept, ran kept .run-lines .kept, loop .loop .inv .0, read loop .read-on .kept, begun loop .start .kept)
+failed-scratch c = let lines = ran (kept c) in omega (arith, lines .run-lines .kept, looped lines .loop .inv .0, begun (looped lines) .start .kept)
 
 failed-out : tie.Need-same-length-5 Inv-loop μ-loop
-failed-out c =
-    let kept = c .before .before .before .before .before .before .before in
-    let loop = looped (ran kept) in
-    omega (arith, kept .keep .kept, ran kept .run-lines .kept, loop .loop .inv .0, read loop .read-on .kept, begun loop .start .kept)
+failed-out c = let lines = ran (kept c) in omega (arith, lines .run-lines .kept, looped lines .loop .inv .0, begun (looped lines) .start .kept)
 
 -- ---- the last line
 
@@ -141,35 +132,27 @@ flushed-requires-2 c κs =
     let loop = last .before .before .before .before .before .before .before .before in
     omega (arith, last .run-last .ensures .1 .1 .0, last .run-last .kept, loop .loop .inv .0, begun loop .start .kept, start loop .pre .1 .output)
 
+-- at the end, back to the last line and to the loop
+abbrev last : tie.After-ended2 Inv-loop μ-loop → tie.After-run-last Inv-loop μ-loop
+last c = c .before .before .before .before .before .before .before .before .before .before .before
+
+abbrev left : tie.After-ended2 Inv-loop μ-loop → tie.At-loop Inv-loop μ-loop
+left c = last c .before .before .before .before .before .before .before .before
+
 same-text : tie.Need-same-length-6 Inv-loop μ-loop
-same-text c =
-    let last = c .before .before .before .before .before .before .before .before .before .before .before in
-    let loop = last .before .before .before .before .before .before .before .before in
-    omega (arith, last .run-last .kept, loop .loop .inv .0, read loop .read-on .kept, begun loop .start .kept)
+same-text c = omega (arith, left c .loop .inv .0, read (left c) .read-on .kept)
 
 same-upload : tie.Need-same-length-7 Inv-loop μ-loop
-same-upload c =
-    let last = c .before .before .before .before .before .before .before .before .before .before .before in
-    let loop = last .before .before .before .before .before .before .before .before in
-    omega (arith, last .run-last .kept, loop .loop .inv .0, read loop .read-on .kept, begun loop .start .kept)
+same-upload c = omega (arith, last c .run-last .kept, left c .loop .inv .0, begun (left c) .start .kept)
 
 same-response : tie.Need-same-length-8 Inv-loop μ-loop
-same-response c =
-    let last = c .before .before .before .before .before .before .before .before .before .before .before in
-    let loop = last .before .before .before .before .before .before .before .before in
-    omega (arith, last .run-last .kept, loop .loop .inv .0, read loop .read-on .kept, begun loop .start .kept)
+same-response c = omega (arith, last c .run-last .kept, left c .loop .inv .0, begun (left c) .start .kept)
 
 same-scratch : tie.Need-same-length-9 Inv-loop μ-loop
-same-scratch c =
-    let last = c .before .before .before .before .before .before .before .before .before .before .before in
-    let loop = last .before .before .before .before .before .before .before .before in
-    omega (arith, last .run-last .kept, loop .loop .inv .0, read loop .read-on .kept, begun loop .start .kept)
+same-scratch c = omega (arith, last c .run-last .kept, left c .loop .inv .0, begun (left c) .start .kept)
 
 same-out : tie.Need-same-length-10 Inv-loop μ-loop
-same-out c =
-    let last = c .before .before .before .before .before .before .before .before .before .before .before in
-    let loop = last .before .before .before .before .before .before .before .before in
-    omega (arith, last .run-last .kept, loop .loop .inv .0, read loop .read-on .kept, begun loop .start .kept)
+same-out c = omega (arith, last c .run-last .kept, left c .loop .inv .0, begun (left c) .start .kept)
 
 pub run-spec : {M : Type 1} → statement M
 run-spec =
