@@ -217,7 +217,7 @@ struct block_handler_reply block_handler_request(
     const uint8_t *payload, size_t payload_len);
 
 /* A response, before it is sent, under the key of its request; `bare` is the length of the response encoded without its payload. `own` says
- * that it has a Block2 option of its own; `head` is its encoded header and options, at most 128 bytes. Changes the table and the key's piece of the response memory; reads nothing of the upload memory but its length. */
+ * that it has a Block2 option of its own, and then it is PLAIN whatever its length: the caller cuts such a page itself. `head` is its encoded header and options, at most 128 bytes. Changes the table and the key's piece of the response memory; reads nothing of the upload memory but its length. */
 struct block_handler_reply block_handler_response(
     struct block_handler_table *table, struct block_handler_config config,
     const uint8_t *upload, size_t upload_len, uint8_t *response, size_t response_len,

@@ -54,7 +54,7 @@ fn main() {
     if end == 8192 {
         io::write_all(
             2,
-            b"blockscript: read 8192 bytes and no more; ./replay reads a script of any length\n",
+            b"blockscript: read 8192 bytes and no more, a line cut there as it stands; ./replay reads a script of any length\n",
         );
     }
     ending::end(b"blockscript", runner::ended(done, took));

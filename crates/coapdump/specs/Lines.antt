@@ -3,7 +3,7 @@ use Prim.Native.Nat.{ℕ, _+_, _%_, _^_, _≤_}
 use mathlib.Core.Path.{_≡_}
 use mathlib.Core.Bool.{cond}
 use mathlib.Core.List.{List, [], _∷_, _++_}
-use lib.ListN.{length, drop}
+use lib.ListN.{length, take, drop}
 use Rattle.script_cut.specs.Cut.{cutAt}
 use Rattle.hex_line.specs.Line.{mostDigits, hexOf, isUnread}
 use Rattle.message_text.specs.Text.{lineText, reasonText}
@@ -17,6 +17,10 @@ pub record Room (digits bytes out : List ℕ) : Type 0 where
 -- What standard output gets for a line, and behind it what standard error gets.
 unfoldable pub saidOf : ℕ → List ℕ → List ℕ
 saidOf number line = lineText number line ++ reasonText number (hexOf line)
+
+-- It stands at the start of the output.
+abbrev pub Says : ℕ → List ℕ → List ℕ → Type 0
+Says number line out = take (length (saidOf number line)) out ≡ saidOf number line
 
 -- How many lines are unreadable.
 unfoldable pub unreadIn : List (List ℕ) → ℕ

@@ -2,13 +2,13 @@
 // unreadable goes to standard error.
 use ending::Ending;
 ghost use mathlib.Core.Path.{_≡_};
-ghost use mathlib.Core.Bool.{true, cond};
+ghost use mathlib.Core.Bool.{true, cond, not};
 ghost use mathlib.Core.List.{[], _∷_};
-ghost use Prim.Native.Nat.{_+_, _%_, _^_};
-ghost use lib.ListN.{length, take};
+ghost use Prim.Native.Nat.{_+_, _%_, _^_, _<_};
+ghost use lib.ListN.{length};
 ghost use Rattle.line_input.specs.Sizes.{textSize};
 ghost use Rattle.hex_line.specs.Line.{hexOf, isUnread};
-ghost use Rattle.coapdump.specs.Lines.{Room, saidOf, unreadIn, Ended};
+ghost use Rattle.coapdump.specs.Lines.{Room, Says, unreadIn, Ended};
 
 // Whether a line was unreadable, and whether what it says was written.
 struct Printed {
@@ -19,7 +19,7 @@ struct Printed {
 // How many lines were printed and how many of them are unreadable, where the text starts that has not ended, and whether all was written.
 struct Rest {
     number: u64,
-    unread: u64,
+    unreadable: u64,
     from: usize,
     written: bool,
 }
@@ -49,7 +49,7 @@ fn print_line(
 ) -> Printed
     requires { ⌜ Room (now digits) (now bytes) (now out) ⌝ }
     ensures { λ r. ⌜ r .unread ≡ isUnread (hexOf (now (line .entry))) ⌝ }
-    ensures { λ _. ⌜ take (length (saidOf number (now (line .entry)))) (now (out .exit)) ≡ saidOf number (now (line .entry)) ⌝ }
+    ensures { λ _. ⌜ Says number (now (line .entry)) (now (out .exit)) ⌝ }
 {
     let shown = message_text::put_line(out, 0, number, line, digits, bytes);
     let end = shown.end;
@@ -71,30 +71,29 @@ fn counted(unread: u64, more: bool) -> u64
     unread
 }
 
-// Prints each line that has ended in the text, up to a write that fails. No contract can say what is written.
+// Prints each line that has ended in the text, up to a write that fails, and counts on. No contract can say what is written.
 fn print_lines(
-    number: u64,
-    unread: u64,
+    so_far: Rest,
     text: &[u8],
     digits: &mut [u8],
     bytes: &mut [u8],
     out: &mut [u8],
 ) -> Rest
     requires { ⌜ Room (now digits) (now bytes) (now out) ⌝ }
-    ensures { λ r. ⌜ (r .written ≡ true → Ended number unread (now (text .entry)) (r .number) (r .unread) (r .from)) ⌝ }
+    ensures { λ r. ⌜ (r .written ≡ true → Ended («so_far» .number) («so_far» .unreadable) (now (text .entry)) (r .number) (r .unreadable) (r .from)) ⌝ }
 {
-    let mut count = number;
-    let mut bad = unread;
+    let mut number = so_far.number;
+    let mut unreadable = so_far.unreadable;
     let mut from = 0;
     let mut end = script_cut::mark_from(text, 0, b'\n');
     while end < text.len() {
-        count = std::num::wrapping_add_u64(count, 1);
-        let printed = print_line(count, &text[from..end], digits, bytes, out);
-        bad = counted(bad, printed.unread);
+        number = std::num::wrapping_add_u64(number, 1);
+        let printed = print_line(number, &text[from..end], digits, bytes, out);
+        unreadable = counted(unreadable, printed.unread);
         if !printed.written {
             return Rest {
-                number: count,
-                unread: bad,
+                number,
+                unreadable,
                 from,
                 written: false,
             };
@@ -103,17 +102,27 @@ fn print_lines(
         end = script_cut::mark_from(text, from, b'\n');
     }
     Rest {
-        number: count,
-        unread: bad,
+        number,
+        unreadable,
         from,
         written: true,
     }
 }
 
+// How the program ends where nothing more is printed.
+fn stopped(rest: Rest, failed: bool) -> Ending
+    ensures { λ r. ⌜ r ≡ record { unreadable = rest .unreadable; «read_failed» = failed; «write_failed» = not (rest .written) } ⌝ }
+{
+    Ending {
+        unreadable: rest.unreadable,
+        read_failed: failed,
+        write_failed: !rest.written,
+    }
+}
+
 // At the end of the input: what has not ended is a line if it is not empty.
 fn print_last(
-    number: u64,
-    unread: u64,
+    so_far: Rest,
     failed: bool,
     text: &[u8],
     digits: &mut [u8],
@@ -121,35 +130,18 @@ fn print_last(
     out: &mut [u8],
 ) -> Ending
     requires { ⌜ Room (now digits) (now bytes) (now out) ⌝ }
-    ensures { λ r. ⌜ (r .unread ≡ (unread + unreadIn (now (text .entry) ∷ [])) % 2 ^ 64) × (r .«not_read» ≡ failed) ⌝ }
+    ensures { λ r. ⌜ (r .unreadable ≡ («so_far» .unreadable + unreadIn (now (text .entry) ∷ [])) % 2 ^ 64) × (r .«read_failed» ≡ failed) ⌝ }
+    ensures { λ _. ⌜ (0 < length (now (text .entry)) → Says ((«so_far» .number + 1) % 2 ^ 64) (now (text .entry)) (now (out .exit))) ⌝ }
 {
     if text.len() == 0 {
-        return Ending {
-            unread,
-            not_read: failed,
-            not_written: false,
-        };
+        return stopped(so_far, failed);
     }
-    let last = print_line(
-        std::num::wrapping_add_u64(number, 1),
-        text,
-        digits,
-        bytes,
-        out,
-    );
+    let number = std::num::wrapping_add_u64(so_far.number, 1);
+    let last = print_line(number, text, digits, bytes, out);
     Ending {
-        unread: counted(unread, last.unread),
-        not_read: failed,
-        not_written: !last.written,
-    }
-}
-
-// A write that failed is the end.
-fn stopped(unread: u64) -> Ending {
-    Ending {
-        unread,
-        not_read: false,
-        not_written: true,
+        unreadable: counted(so_far.unreadable, last.unread),
+        read_failed: failed,
+        write_failed: !last.written,
     }
 }
 
@@ -157,35 +149,30 @@ fn run(text: &mut [u8], digits: &mut [u8], bytes: &mut [u8], out: &mut [u8]) -> 
     requires { ⌜ length (now text) ≡ textSize ⌝ }
     requires { ⌜ Room (now digits) (now bytes) (now out) ⌝ }
 {
-    if !io::write_all(1, b"N type code id token options payload\n") {
-        return stopped(0);
+    let mut rest = Rest {
+        number: 0,
+        unreadable: 0,
+        from: 0,
+        written: io::write_all(1, b"N type code id token options payload\n"),
+    };
+    if !rest.written {
+        return stopped(rest, false);
     }
-    let mut number = 0;
-    let mut unread = 0;
     let mut held = 0;
     let mut took = line_input::read_on(text, 0);
     let mut turns = line_input::turns_left(u64::MAX, 0, took.end);
     while turns > 0 {
         let end = took.end;
-        let rest = print_lines(number, unread, &text[0..end], digits, bytes, out);
-        number = rest.number;
-        unread = rest.unread;
+        rest = print_lines(rest, &text[0..end], digits, bytes, out);
         if !rest.written {
-            return stopped(unread);
+            return stopped(rest, false);
         }
         held = line_input::keep(text, rest.from, end);
         took = line_input::read_on(text, held);
         turns = line_input::turns_left(turns, held, took.end);
     }
-    print_last(
-        number,
-        unread,
-        took.failed,
-        &text[0..held],
-        digits,
-        bytes,
-        out,
-    )
+    let left = line_input::left_over(held, took);
+    print_last(rest, took.failed, &text[0..left], digits, bytes, out)
 }
 
 fn main() {

@@ -1,5 +1,5 @@
 -- How a program ends: what it says on standard error, and its exit code.
-use Prim.Native.Nat.{ℕ}
+use Prim.Native.Nat.{ℕ, _+_}
 use mathlib.Core.Bool.{Bool, cond, _||_}
 use mathlib.Core.List.{List, [], _∷_, _++_}
 use lib.Dec.{eqb}
@@ -8,7 +8,7 @@ use Rattle.ending.specs.declared.Ending.{Ending}
 
 -- 2 where the input could not be read or the output not written; else 1 where a line was unreadable; else 0.
 unfoldable pub exitCode : Ending → ℕ
-exitCode e = cond (e .«not_read» || e .«not_written») 2 (cond (eqb (e .unread) 0) 0 1)
+exitCode e = cond (e .«read_failed» || e .«write_failed») 2 (cond (eqb (e .unreadable) 0) 0 1)
 
 -- `: cannot read standard input`, and a line end.
 abbrev pub notRead : List ℕ
@@ -34,4 +34,8 @@ unreadText program n = cond (eqb n 0) [] (program ++ (unreadLines ++ (decimal n 
 
 unfoldable pub endingText : List ℕ → Ending → List ℕ
 endingText program e =
-    sentence (e .«not_read») program notRead ++ (sentence (e .«not_written») program notWritten ++ unreadText program (e .unread))
+    sentence (e .«read_failed») program notRead ++ (sentence (e .«write_failed») program notWritten ++ unreadText program (e .unreadable))
+
+-- What is reported: the exit code as a digit, and a line end.
+unfoldable pub reportText : Ending → List ℕ
+reportText e = (48 + exitCode e) ∷ 10 ∷ []

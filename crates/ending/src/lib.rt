@@ -4,22 +4,22 @@ ghost use mathlib.Core.Path.{_≡_};
 ghost use Prim.Native.Nat.{_+_, _*_, _≤_};
 ghost use lib.ListN.{length};
 ghost use Rattle.pieces.specs.Memory.{Put};
-ghost use Rattle.ending.specs.Ending.{exitCode, sentence, unreadText, endingText};
+ghost use Rattle.ending.specs.Ending.{exitCode, sentence, unreadText, endingText, reportText};
 
 // How many lines were unreadable; whether the input could not be read to its end, and the output not written.
 pub struct Ending {
-    pub unread: u64,
-    pub not_read: bool,
-    pub not_written: bool,
+    pub unreadable: u64,
+    pub read_failed: bool,
+    pub write_failed: bool,
 }
 
 fn exit_code(ending: Ending) -> u8
     ensures { λ r. ⌜ (r ≡ exitCode ending) × (r ≤ 2) ⌝ }
 {
-    if ending.not_read | ending.not_written {
+    if ending.read_failed | ending.write_failed {
         return 2;
     }
-    if ending.unread == 0 {
+    if ending.unreadable == 0 {
         return 0;
     }
     1
@@ -59,23 +59,31 @@ fn put_ending(out: &mut [u8], at: usize, program: &[u8], ending: Ending) -> usiz
     ensures { λ r. ⌜ Put (now (out .entry)) at (endingText (now (program .entry)) ending) (now (out .exit)) r ⌝ }
     ensures { λ r. ⌜ r ≤ length (now (out .entry)) ⌝ }
 {
-    let not_read = ending.not_read;
-    let not_written = ending.not_written;
+    let read_failed = ending.read_failed;
+    let write_failed = ending.write_failed;
     let k = put_sentence(
         out,
         at,
-        not_read,
+        read_failed,
         program,
         b": cannot read standard input\n",
     );
     let l = put_sentence(
         out,
         k,
-        not_written,
+        write_failed,
         program,
         b": cannot write standard output\n",
     );
-    put_unread(out, l, program, ending.unread)
+    put_unread(out, l, program, ending.unreadable)
+}
+
+// The exit code as a digit, and a line end.
+fn report_of(ending: Ending) -> [u8; 2]
+    ensures { λ r. ⌜ r ≡ reportText ending ⌝ }
+    ensures { λ r. ⌜ 2 ≡ length r ⌝ }
+{
+    [48 + exit_code(ending), b'\n']
 }
 
 // Says how the program ended, and reports it. No contract can say what is written.
@@ -84,7 +92,7 @@ pub fn end(program: &[u8], ending: Ending)
 {
     let mut out = io::buffer();
     let at = put_ending(&mut out, 0, program, ending);
-    let report = [48 + exit_code(ending), b'\n'];
+    let report = report_of(ending);
     io::write_all(2, &out[0..at]);
     io::write_all(3, &report);
 }

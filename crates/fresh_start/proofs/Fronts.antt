@@ -13,7 +13,7 @@ use Rattle.call.specs.Contract.{world}
 use Rattle.replay_control.specs.Control.{configText}
 use Rattle.buffers.specs.Sizes.{memoryOf, lineRoom}
 use Rattle.script_state.specs.declared.Step.{Step}
-use Rattle.script_state.specs.Start.{unreadAfter}
+use Rattle.script_state.specs.Start.{unreadableAfter}
 use Rattle.fresh_start.specs.Leaves.{freshWorld, After, fresh, Leaves}
 
 -- a memory of which the front was written
@@ -25,13 +25,13 @@ filled m n = sym (patch-lent m 0 n (replicate n 0) (length-replicate n 0))
 
 -- a step with another configuration, table and count, and output that goes on elsewhere
 abbrev pub left : Config → Table → ℕ → Step → ℕ → Step
-left c t unread s at = record { state = record { config = c; table = t; number = s .state .number; unread = unread }; at = at; written = s .written }
+left c t n s at = record { state = record { config = c; table = t; number = s .state .number; unreadable = n }; at = at; written = s .written }
 
 -- What a line leaves where it wrote p and q over the fronts of the memories, each as long as the configuration says.
 module _ (c : Config) (t : Table) (s : Step) (up away m : List ℕ) {at u v : ℕ} {m′ : List ℕ} (eu : u ≡ memoryOf (c .upload)) (ev : v ≡ memoryOf (c .response)) where
   pub leaves-fronts : (a : After) (p q : List ℕ) → length p ≡ u → length q ≡ v → c ≡ a .config → world t p q ≡ a .world
       → Put m (s .at) (a .text) m′ at → at ≤ s .at + lineRoom
-      → Leaves a s up away m (left c t (unreadAfter (a .unread) (s .state .unread)) s at) (fronted p up u) (fronted q away v) m′
+      → Leaves a s up away m (left c t (unreadableAfter (a .unread) (s .state .unreadable)) s at) (fronted p up u) (fronted q away v) m′
   leaves-fronts a p q lp lq ec ew text room =
       let first = ap (λ (k : ℕ). take k (fronted p up u)) (sym eu) ∙ take-at p (drop u up) u lp in
       let second = ap (λ (k : ℕ). take k (fronted q away v)) (sym ev) ∙ take-at q (drop v away) v lq in
@@ -39,7 +39,7 @@ module _ (c : Config) (t : Table) (s : Step) (up away m : List ℕ) {at u v : �
         config = ec;
         world = (λ i. world t (first i) (second i)) ∙ ew;
         number = refl;
-        unread = refl;
+        unreadable = refl;
         upload = ap (λ (k : ℕ). drop k (fronted p up u)) (sym eu) ∙ drop-at p (drop u up) u lp ∙ ap (λ (k : ℕ). drop k up) eu;
         response = ap (λ (k : ℕ). drop k (fronted q away v)) (sym ev) ∙ drop-at q (drop v away) v lq ∙ ap (λ (k : ℕ). drop k away) ev;
         text = text;
@@ -50,7 +50,7 @@ module _ (c : Config) (t : Table) (s : Step) (up away m : List ℕ) {at u v : �
   -- A fresh start leaves zeros.
   pub leaves-zeros : {up′ away′ : List ℕ} → up′ ≡ patch up 0 (replicate u 0) → away′ ≡ patch away 0 (replicate v 0) → t ≡ freshTable
       → Put m (s .at) (configText (s .state .number)) m′ at → at ≤ s .at + lineRoom
-      → Leaves (fresh c (s .state .number)) s up away m (left c t (s .state .unread) s at) up′ away′ m′
+      → Leaves (fresh c (s .state .number)) s up away m (left c t (s .state .unreadable) s at) up′ away′ m′
   unfolding freshWorld
   leaves-zeros eup eaway et text room =
       rw (eup ∙ filled up u, eaway ∙ filled away v)

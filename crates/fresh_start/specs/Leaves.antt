@@ -13,7 +13,7 @@ use Rattle.replay_control.specs.Control.{configText}
 use Rattle.pieces.specs.Memory.{Put}
 use Rattle.buffers.specs.Sizes.{memoryOf, lineRoom}
 use Rattle.script_state.specs.declared.Step.{Step}
-use Rattle.script_state.specs.Start.{unreadAfter}
+use Rattle.script_state.specs.Start.{unreadableAfter}
 
 -- What a line leaves, what is printed of it, and whether it was unreadable.
 pub record After : Type 0 where
@@ -42,7 +42,7 @@ pub record Leaves (a : After) (s : Step) (up away m : List ℕ) (z : Step) (up�
   pub config : z .state .config ≡ a .config
   pub world : worldIn (z .state .config) (z .state .table) up′ away′ ≡ a .world
   pub number : z .state .number ≡ s .state .number
-  pub unread : z .state .unread ≡ unreadAfter (a .unread) (s .state .unread)
+  pub unreadable : z .state .unreadable ≡ unreadableAfter (a .unread) (s .state .unreadable)
   pub upload : drop (memoryOf (z .state .config .upload)) up′ ≡ drop (memoryOf (z .state .config .upload)) up
   pub response : drop (memoryOf (z .state .config .response)) away′ ≡ drop (memoryOf (z .state .config .response)) away
   pub text : Put m (s .at) (a .text) m′ (z .at)

@@ -31,7 +31,7 @@ pub fn begin(
             config,
             table,
             number,
-            unread: state.unread,
+            unreadable: state.unreadable,
         },
         at,
         written: step.written,

@@ -91,7 +91,7 @@ some-filled text out n h f k q =
 
 -- ---- a line
 
-pub long-line : (line : List ℕ) → longest < length line → hex.Unread why.TooLong ≡ hexOf line
+pub long-line : (line : List ℕ) → longest < length line → hex.Unread why.LongLine ≡ hexOf line
 unfolding hexOf
 long-line line h = rw (lt-ltb longest (length line) h)
 

@@ -60,10 +60,10 @@ digitsSay start text =
 abbrev pub mostDigits : ℕ
 mostDigits = 131070
 
--- A line that is longer than the longest may be cut, so it is too long whatever it holds.
+-- A line that is longer than the longest may be cut, so it is unreadable whatever it holds.
 unfoldable pub hexOf : List ℕ → Hex
 hexOf line =
-    cond (ltb longest (length line)) (hex.Unread why.TooLong)
+    cond (ltb longest (length line)) (hex.Unread why.LongLine)
     (cond (isSkipped (trimmed line)) hex.Skipped
     (cond (ltb mostDigits (length (trimmed line))) (hex.Unread why.TooLong) (digitsSay (startOf line) (map lower (trimmed line)))))
 

@@ -14,6 +14,9 @@ const MOST_DIGITS: usize = 131070;
 
 // Why a line is unreadable.
 pub enum Why {
+    // The line as it stands, which may be cut.
+    LongLine,
+    // What it says.
     TooLong,
     // The first character that is no hex digit, counted from 1 in the line as it stands.
     NoDigit(usize),
@@ -118,7 +121,7 @@ pub fn read_line(line: &[u8], text: &mut [u8], bytes: &mut [u8]) -> Hex
     ensures { λ r. ⌜ Filled r (bytesOf (now (line .entry))) (now (bytes .exit)) ⌝ }
 {
     if line_input::LONGEST < line.len() {
-        return Hex::Unread(Why::TooLong);
+        return Hex::Unread(Why::LongLine);
     }
     let start = start_of(line);
     let end = end_of(line);

@@ -1,10 +1,12 @@
 // The lines of standard input, of any length: read on, with the text that has not ended kept; and output that is written.
 ghost use mathlib.Core.Path.{_≡_};
 ghost use mathlib.Core.Bool.{true, cond};
-ghost use Prim.Native.Nat.{_+_, _-_, _≤_, _<_, min};
+ghost use Prim.Native.Nat.{_+_, _-_, _^_, _≤_, _<_, min};
 ghost use lib.Dec.{eqb};
 ghost use lib.ListN.{length, take, replicate};
-ghost use Rattle.io.specs.Counts.{Counts};
+ghost use lib.IntN.{pos};
+ghost use lib.Signed.{ltZ};
+ghost use Rattle.io.specs.Counts.{Counts, clamped};
 ghost use Rattle.pieces.specs.Memory.{patch, part};
 ghost use Rattle.line_input.specs.Sizes.{longest, textSize};
 
@@ -31,35 +33,46 @@ pub struct Took {
     pub failed: bool,
 }
 
-// Reads on behind the bytes that are held, which stay. Where the text ends with them, the input has ended, or the read failed.
+// What a read into this room answered, behind the bytes that are held: a negative number is a failure.
+fn taken(held: usize, got: isize, room: &[u8]) -> Took
+    requires { ⌜ held + length (now room) < 2 ^ 64 ⌝ }
+    ensures { λ r. ⌜ (r .end ≡ held + clamped got (length (now (room .entry)))) × (r .failed ≡ ltZ got (pos 0)) ⌝ }
+    ensures { λ r. ⌜ (held ≤ r .end) × (r .end ≤ held + length (now (room .entry))) ⌝ }
+{
+    Took {
+        end: held + io::count(got, room),
+        failed: got < 0,
+    }
+}
+
+// Reads on behind the bytes that are held, which stay. Where the text ends with them, the input has ended, the read failed, or there is no room.
 pub fn read_on(text: &mut [u8], held: usize) -> Took
     requires { ⌜ held ≤ length (now text) ⌝ }
     ensures { λ r. ⌜ (held ≤ r .end) × (r .end ≤ length (now (text .entry))) ⌝ }
     ensures { λ r. ⌜ take held (now (text .exit)) ≡ take held (now (text .entry)) ⌝ }
-    ensures { λ r. ⌜ (r .failed ≡ true → r .end ≡ held) ⌝ }
 {
     let got = libc::read(0, &mut text[held..]);
-    if got < 0 {
+    taken(held, got, &text[held..])
+}
+
+// Reads until the text is full or the input has ended; where a read fails, nothing counts as read.
+pub fn read_full(text: &mut [u8]) -> Took
+    ensures { λ r. ⌜ Counts (r .end) (now (text .exit)) ⌝ }
+    ensures { λ r. ⌜ (r .failed ≡ true → r .end ≡ 0) ⌝ }
+{
+    let mut held = 0;
+    let mut last = read_on(text, 0);
+    while held < last.end {
+        held = last.end;
+        last = read_on(text, held);
+    }
+    if last.failed {
         return Took {
-            end: held,
+            end: 0,
             failed: true,
         };
     }
-    let end = held + io::count(got, &text[held..]);
-    Took { end, failed: false }
-}
-
-// Reads until the text is full, the input has ended or a read fails.
-pub fn read_full(text: &mut [u8]) -> Took
-    ensures { λ r. ⌜ Counts (r .end) (now (text .exit)) ⌝ }
-{
-    let mut held = 0;
-    let mut took = read_on(text, 0);
-    while held < took.end {
-        held = took.end;
-        took = read_on(text, held);
-    }
-    took
+    last
 }
 
 // 0 once a read brings nothing; otherwise one fewer. It starts at 2^64 - 1 only so that the loop provably ends.
@@ -89,6 +102,13 @@ pub fn keep(text: &mut [u8], from: usize, end: usize) -> usize
     let n = at_most(LONG, end - from);
     moving::move_left(text, from, 0, n);
     n
+}
+
+// How much of what is held is a last line, at the end of the input: none where a read failed, which may have cut it.
+pub fn left_over(held: usize, last: Took) -> usize
+    ensures { λ r. ⌜ (r ≡ cond (last .failed) 0 held) × (r ≤ held) ⌝ }
+{
+    if last.failed { 0 } else { held }
 }
 
 // Writes what waits, and answers whether all of it was written. No contract can say what is written.

@@ -22,7 +22,7 @@ use Rattle.script.specs.Line.{lineOf, unreadable}
 use Rattle.script_print.specs.Run.{worldAfter, textAfter, stateAfter, Runs}
 use Rattle.buffers.specs.Sizes.{memoryOf, memorySize, lineRoom}
 use Rattle.script_state.specs.declared.Step.{Step}
-use Rattle.script_state.specs.Start.{unreadAfter}
+use Rattle.script_state.specs.Start.{unreadableAfter}
 use Rattle.state_text.specs.State.{stateText}
 use Rattle.fresh_start.specs.Leaves.{After, worldIn, Leaves}
 use Rattle.fresh_start.proofs.Fronts.{left, fronted, leaves-fronts}
@@ -42,9 +42,9 @@ world-by c t up away eu ev = λ i. world t (take (eu i) up) (take (ev i) away)
 module _ (s : Step) (up away m : List ℕ) {m′ : List ℕ} where
   leaves-same : (a : After) {at : ℕ} → s .state .config ≡ a .config → worldIn (s .state .config) (s .state .table) up away ≡ a .world
       → Put m (s .at) (a .text) m′ at → at ≤ s .at + lineRoom
-      → Leaves a s up away m (left (s .state .config) (s .state .table) (unreadAfter (a .unread) (s .state .unread)) s at) up away m′
+      → Leaves a s up away m (left (s .state .config) (s .state .table) (unreadableAfter (a .unread) (s .state .unreadable)) s at) up away m′
   leaves-same a ec ew text room =
-      record { config = ec; world = ew; number = refl; unread = refl; upload = refl; response = refl; text = text; room = room; written = refl }
+      record { config = ec; world = ew; number = refl; unreadable = refl; upload = refl; response = refl; text = text; room = room; written = refl }
 
   by-state : {a : After} {x y : State} {at : ℕ} {b : Bool} {up′ away′ : List ℕ} → x ≡ y → b ≡ s .written
       → Leaves a s up away m (record { state = y; at = at; written = s .written }) up′ away′ m′ → Leaves a s up away m (record { state = x; at = at; written = b }) up′ away′ m′

@@ -42,6 +42,11 @@ lineText number line = shownText number (hexOf line) (bytesOf line)
 unfoldable pub because : ℕ → List ℕ → List ℕ
 because number why = (99 ∷ 111 ∷ 97 ∷ 112 ∷ 100 ∷ 117 ∷ 109 ∷ 112 ∷ 58 ∷ 32 ∷ 108 ∷ 105 ∷ 110 ∷ 101 ∷ 32 ∷ []) ++ (decimal number ++ why)
 
+-- `: longer than 200000 characters`, and a line end.
+abbrev pub longLine : List ℕ
+longLine =
+    58 ∷ 32 ∷ 108 ∷ 111 ∷ 110 ∷ 103 ∷ 101 ∷ 114 ∷ 32 ∷ 116 ∷ 104 ∷ 97 ∷ 110 ∷ 32 ∷ 50 ∷ 48 ∷ 48 ∷ 48 ∷ 48 ∷ 48 ∷ 32 ∷ 99 ∷ 104 ∷ 97 ∷ 114 ∷ 97 ∷ 99 ∷ 116 ∷ 101 ∷ 114 ∷ 115 ∷ 10 ∷ []
+
 -- `: longer than 65535 bytes`, and a line end.
 abbrev pub longer : List ℕ
 longer =
@@ -60,6 +65,7 @@ oddNumber =
     58 ∷ 32 ∷ 97 ∷ 110 ∷ 32 ∷ 111 ∷ 100 ∷ 100 ∷ 32 ∷ 110 ∷ 117 ∷ 109 ∷ 98 ∷ 101 ∷ 114 ∷ 32 ∷ 111 ∷ 102 ∷ 32 ∷ 100 ∷ 105 ∷ 103 ∷ 105 ∷ 116 ∷ 115 ∷ 10 ∷ []
 
 abbrev pub whyText : ℕ → Why → List ℕ
+whyText number why.LongLine = because number longLine
 whyText number why.TooLong = because number longer
 whyText number (why.NoDigit i) = because number character ++ (decimal i ++ noDigit)
 whyText number why.Odd = because number oddNumber

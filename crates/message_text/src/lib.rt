@@ -89,6 +89,7 @@ fn put_why(out: &mut [u8], at: usize, number: u64, why: Why) -> usize
     ensures { λ r. ⌜ r ≤ at + 84 ⌝ }
 {
     match why {
+        Why::LongLine => put_because(out, at, number, b": longer than 200000 characters\n"),
         Why::TooLong => put_because(out, at, number, b": longer than 65535 bytes\n"),
         Why::NoDigit(i) => {
             let k = put_because(out, at, number, b": character ");

@@ -5,7 +5,8 @@ ghost use lib.ListN.{length};
 ghost use Rattle.line_input.specs.Sizes.{textSize};
 ghost use Rattle.line_runner.specs.Line.{Lent};
 
-// What the lines print that were read at once is written before more is read. A write that failed is the end.
+// What the lines print that were read at once is written before more is read. A write that failed is the end, and so is a read: a line that was cut by
+// it is not run.
 fn run(
     text: &mut [u8],
     upload: &mut [u8],
@@ -31,7 +32,8 @@ fn run(
         took = line_input::read_on(text, held);
         turns = line_input::turns_left(turns, held, took.end);
     }
-    let last = runner::run_last(true, step, &text[0..held], upload, response, scratch, out);
+    let rest = line_input::left_over(held, took);
+    let last = runner::run_last(true, step, &text[0..rest], upload, response, scratch, out);
     runner::ended(script_state::flushed(out, last, 0), took)
 }
 

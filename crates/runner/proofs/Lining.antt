@@ -11,20 +11,19 @@ use borrow.Author.Tests.{ltb-false, eq-eqb, ne-eqb}
 use Rattle.pieces.specs.Memory.{patch, Put}
 use Rattle.script_cut.specs.Cut.{cutAt, between, UpTo}
 use Rattle.script_cut.proofs.Splitting.{next-field, last-field, some-field}
-use Rattle.line_input.specs.Sizes.{much}
 use Rattle.script_state.specs.declared.State.{State}
 use Rattle.script_state.specs.declared.Step.{Step}
-use Rattle.script_state.specs.Start.{header, begun, oneMore, unreadAfter}
+use Rattle.script_state.specs.Start.{header, begun, oneMore, unreadableAfter, much}
 use Rattle.fresh_start.specs.Leaves.{Leaves}
 use Rattle.runner.specs.Lines.{Standing, standing, nextLine, afterLine, afterLines, waitsAfter, waitsAfterLines, lastOf, unended, afterLast, lastText, afterScript, waitsAfterScript}
 
 -- ---- one line after another
 
 pub stands : (replay : Bool) (s : Standing) (l : List ℕ) {up away m up′ away′ m′ : List ℕ} {x z : Step} → Leaves (nextLine replay s l) x up away m z up′ away′ m′
-    → x .state .number ≡ oneMore (s .number) → x .state .unread ≡ s .unread → standing (z .state) up′ away′ ≡ afterLine replay s l
+    → x .state .number ≡ oneMore (s .number) → x .state .unreadable ≡ s .unreadable → standing (z .state) up′ away′ ≡ afterLine replay s l
 stands replay s l h e f =
-    let unread = h .unread ∙ ap (unreadAfter (nextLine replay s l .unread)) f in
-    λ i. record { config = h .config i; world = h .world i; number = (h .number ∙ e) i; unread = unread i }
+    let unreadable = h .unreadable ∙ ap (unreadableAfter (nextLine replay s l .unread)) f in
+    λ i. record { config = h .config i; world = h .world i; number = (h .number ∙ e) i; unreadable = unreadable i }
 
 module _ (replay : Bool) (s : Standing) (l : List ℕ) where
   one-more : (ls : List (List ℕ)) → 0 < length ls → afterLines replay s (l ∷ ls) ≡ afterLines replay (afterLine replay s l) ls

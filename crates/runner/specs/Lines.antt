@@ -8,9 +8,8 @@ use Rattle.config.specs.declared.Config.{Config}
 use Rattle.call.specs.Call.{World}
 use Rattle.script_cut.specs.Cut.{cutAt}
 use Rattle.script_state.specs.declared.State.{State}
-use Rattle.script_state.specs.Start.{header, oneMore, unreadAfter}
+use Rattle.script_state.specs.Start.{header, oneMore, unreadableAfter, much}
 use Rattle.fresh_start.specs.Leaves.{After, worldIn}
-use Rattle.line_input.specs.Sizes.{much}
 use Rattle.line_runner.specs.Line.{lineRun}
 
 -- Where a script stands: the number is that of the last line, and so many lines were unreadable.
@@ -18,7 +17,7 @@ pub record Standing : Type 0 where
   pub config : Config
   pub world : World
   pub number : ℕ
-  pub unread : ℕ
+  pub unreadable : ℕ
 
 abbrev pub nextLine : Bool → Standing → List ℕ → After
 nextLine replay s l = lineRun replay (s .config) (s .world) (oneMore (s .number)) l
@@ -29,7 +28,7 @@ afterLine replay s l =
       config = nextLine replay s l .config;
       world = nextLine replay s l .world;
       number = oneMore (s .number);
-      unread = unreadAfter (nextLine replay s l .unread) (s .unread);
+      unreadable = unreadableAfter (nextLine replay s l .unread) (s .unreadable);
     }
 
 -- Each line that has ended is run: all but the last of a text that is cut at its line ends.
@@ -78,7 +77,7 @@ waitsAfterScript s text =
 -- ---- where the code stands, with what is lent to it
 
 abbrev pub standing : State → List ℕ → List ℕ → Standing
-standing s up away = record { config = s .config; world = worldIn (s .config) (s .table) up away; number = s .number; unread = s .unread }
+standing s up away = record { config = s .config; world = worldIn (s .config) (s .table) up away; number = s .number; unreadable = s .unreadable }
 
 abbrev pub linesIn : Bool → State → List ℕ → List ℕ → List ℕ → Standing
 linesIn replay s up away text = afterLines replay (standing s up away) (cutAt 10 text)

@@ -18,11 +18,11 @@ pub struct Rest {
 
 // How a program ends, by where its script stands and what its last read took.
 pub fn ended(step: Step, took: Took) -> Ending
-    ensures { λ r. ⌜ r ≡ record { unread = step .state .unread; «not_read» = took .failed; «not_written» = not (step .written) } ⌝ }
+    ensures { λ r. ⌜ r ≡ record { unreadable = step .state .unreadable; «read_failed» = took .failed; «write_failed» = not (step .written) } ⌝ }
 {
     Ending {
-        unread: step.state.unread,
-        not_read: took.failed,
-        not_written: !step.written,
+        unreadable: step.state.unreadable,
+        read_failed: took.failed,
+        write_failed: !step.written,
     }
 }

@@ -6,7 +6,7 @@ ghost use mathlib.Core.Path.{_≡_};
 ghost use mathlib.Core.Bool.{false};
 ghost use Prim.Native.Nat.{_≤_};
 ghost use lib.ListN.{length, take, drop};
-ghost use Rattle.line_input.specs.Sizes.{much};
+ghost use Rattle.script_state.specs.Start.{much};
 ghost use Rattle.pieces.specs.Memory.{Put};
 ghost use Rattle.buffers.specs.Sizes.{outputSize};
 ghost use Rattle.line_runner.specs.Line.{Lent};

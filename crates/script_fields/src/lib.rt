@@ -1,6 +1,5 @@
 // The fields of a line: decimals, bytes in hex, and block options.
 ghost use mathlib.Core.Path.{_≡_};
-ghost use mathlib.Core.Bool.{true};
 ghost use Prim.Native.Nat.{_+_, _*_, _≤_};
 ghost use lib.ListN.{length};
 ghost use Rattle.script_fields.specs.Fields.{isDigit, numberOf, nibble, isMark, pairsDecoded, pairsOf, isBytes, bytesOf, isGiven, isOption, optionBytes, Filled, Reads};
@@ -47,7 +46,7 @@ pub fn number_field(text: &[u8]) -> Number
     Number::Value(sum)
 }
 
-// The number of a hex digit; 16 for any other byte.
+// The number of a lower-case hex digit; 16 for any other byte.
 pub fn nibble_of(x: u8) -> u8
     ensures { λ r. ⌜ (r ≡ nibble x) × (r ≤ 16) ⌝ }
 {

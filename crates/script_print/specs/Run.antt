@@ -17,7 +17,7 @@ use Rattle.answer_text.specs.Shown.{shownOf}
 use Rattle.buffers.specs.Sizes.{lineRoom}
 use Rattle.script_state.specs.declared.State.{State}
 use Rattle.script_state.specs.declared.Step.{Step}
-use Rattle.script_state.specs.Start.{unreadAfter}
+use Rattle.script_state.specs.Start.{unreadableAfter}
 
 -- What is printed of an answer: parts of the payload and of the memories as the call left them.
 abbrev pub answered : State → Answer → List ℕ → List ℕ → List ℕ → List ℕ
@@ -51,10 +51,10 @@ isUnread unreadable = true
 
 -- The state with another table; and after a line that says q.
 abbrev pub withTable : State → Table → State
-withTable s t = record { config = s .config; table = t; number = s .number; unread = s .unread }
+withTable s t = record { config = s .config; table = t; number = s .number; unreadable = s .unreadable }
 
 abbrev pub stateAfter : State → Said → Table → State
-stateAfter s q t = record { config = s .config; table = t; number = s .number; unread = unreadAfter (isUnread q) (s .unread) }
+stateAfter s q t = record { config = s .config; table = t; number = s .number; unreadable = unreadableAfter (isUnread q) (s .unreadable) }
 
 -- A line that says q, run on the world w, leaves w′ and z, and its text in the output m.
 pub record Runs (s : Step) (w : World) (q : Said) (m : List ℕ) (z : Step) (w′ : World) (m′ : List ℕ) : Type 0 where

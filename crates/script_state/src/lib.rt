@@ -7,15 +7,14 @@ ghost use mathlib.Core.Bool.{true, false, cond};
 ghost use lib.Dec.{ltb};
 ghost use lib.ListN.{length};
 ghost use Rattle.pieces.specs.Memory.{Put};
-ghost use Rattle.line_input.specs.Sizes.{much};
-ghost use Rattle.script_state.specs.Start.{scriptConfig, header, begun, countedIn};
+ghost use Rattle.script_state.specs.Start.{scriptConfig, header, begun, countedIn, much};
 
 // Where the script stands: the configuration, the table, the number of the last line, and how many lines were unreadable.
 pub struct State {
     pub config: Config,
     pub table: Table,
     pub number: u64,
-    pub unread: u64,
+    pub unreadable: u64,
 }
 
 // What a line leaves, where the next output goes, and whether all output that is due was written.
@@ -56,7 +55,7 @@ pub fn start(out: &mut [u8]) -> Step
             config,
             table,
             number: 0,
-            unread: 0,
+            unreadable: 0,
         },
         at,
         written: true,
@@ -75,7 +74,7 @@ pub fn counted(step: Step) -> Step
             config,
             table,
             number: std::num::wrapping_add_u64(state.number, 1),
-            unread: state.unread,
+            unreadable: state.unreadable,
         },
         at: step.at,
         written: step.written,
@@ -97,6 +96,7 @@ fn print_on(written: bool, out: &[u8], at: usize) -> bool
 pub fn flushed(out: &[u8], step: Step, most: usize) -> Step
     requires { ⌜ step .at ≤ length (now out) ⌝ }
     ensures { λ r. ⌜ (r .state ≡ step .state) × (r .at ≡ cond (ltb most (step .at)) 0 (step .at)) ⌝ }
+    ensures { λ r. ⌜ (step .at ≤ most → r .written ≡ step .written) ⌝ }
     ensures { λ r. ⌜ (step .written ≡ false → r .written ≡ false) ⌝ }
 {
     if step.at <= most {

@@ -9,19 +9,21 @@ use Rattle.coapdump.proofs.print_lines.Statement.{statement}
 use Rattle.coapdump.proofs.print_lines.Tie as tie
 
 abbrev Inv-loop : tie.InvT-loop
-Inv-loop number unread text digits₀ bytes₀ out₀ count₀ bad₀ from₀ end₀ digits bytes out count bad from end =
-    (length digits ≡ length digits₀) × (length bytes ≡ length bytes₀) × (length out ≡ length out₀) × Going number unread text count bad from end
+Inv-loop text digits₀ bytes₀ out₀ number₀ unreadable₀ from₀ end₀ digits bytes out number unreadable from end =
+    (length digits ≡ length digits₀) × (length bytes ≡ length bytes₀) × (length out ≡ length out₀)
+    × Going number₀ unreadable₀ text number unreadable from end
 
 abbrev μ-loop : tie.MeasureT-loop
-μ-loop number unread text digits₀ bytes₀ out₀ count₀ bad₀ from₀ end₀ digits bytes out count bad from end = length text - from
+μ-loop text digits₀ bytes₀ out₀ number₀ unreadable₀ from₀ end₀ digits bytes out number unreadable from end = length text - from
 
 loop-holds : tie.Need-loop-holds Inv-loop μ-loop
 loop-holds c =
-    let s = c .before .before .before .before .before in (
+    let s = c .before .before .before .before .before in
+    let given = s .args .so-far in (
       refl,
       refl,
       refl,
-      going-start (s .args .number) (s .args .unread) (s .args .text .now) _ (omega (arith, s .fits .number)) (omega (arith, s .fits .unread)) (c .mark-from .ensures),
+      going-start (given .number) (given .unreadable) (s .args .text .now) _ (omega (arith, s .good)) (omega (arith, s .good)) (c .mark-from .ensures),
     )
 
 line-fits : tie.Need-print-line-requires Inv-loop μ-loop
@@ -59,7 +61,7 @@ loop-again c =
     let counted = printed .before .before .before .before .before in
     let in-loop = counted .before in
     let inv = in-loop .before .loop .inv in
-    let bad = tallied .counted .ensures ∙ ap (λ (b : Bool). (in-loop .before .loop .bad + cond b 1 0) % 2 ^ 64) (printed .print-line .ensures .0) in (
+    let bad = tallied .counted .ensures ∙ ap (λ (b : Bool). (in-loop .before .loop .unreadable + cond b 1 0) % 2 ^ 64) (printed .print-line .ensures .0) in (
       omega (arith, printed .print-line .kept, inv .0),
       omega (arith, printed .print-line .kept, inv .1),
       omega (arith, printed .print-line .kept, inv .2),

@@ -10,12 +10,12 @@ use Rattle.coapdump.proofs.run.Statement.{statement}
 use Rattle.coapdump.proofs.run.Tie as tie
 
 abbrev Inv-loop : tie.InvT-loop
-Inv-loop text₀ digits₀ bytes₀ out₀ number₀ unread₀ held₀ took₀ turns₀ text digits bytes out number unread held took turns =
+Inv-loop text₀ digits₀ bytes₀ out₀ rest₀ held₀ took₀ turns₀ text digits bytes out rest held took turns =
     ((length text ≡ length text₀) × (length digits ≡ length digits₀) × (length bytes ≡ length bytes₀) × (length out ≡ length out₀))
     × ((held ≤ longest + 1) × (took .end ≤ length text))
 
 abbrev μ-loop : tie.MeasureT-loop
-μ-loop text₀ digits₀ bytes₀ out₀ number₀ unread₀ held₀ took₀ turns₀ text digits bytes out number unread held took turns =
+μ-loop text₀ digits₀ bytes₀ out₀ rest₀ held₀ took₀ turns₀ text digits bytes out rest held took turns =
     turns
 
 -- ---- the places
@@ -31,7 +31,7 @@ abbrev read : tie.At-loop Inv-loop μ-loop → tie.After-read-on Inv-loop μ-loo
 read c = c .before .before .before .before
 
 abbrev start : tie.At-loop Inv-loop μ-loop → tie.Start Inv-loop μ-loop
-start c = read c .before .before .before .before .before .before .before .before .before
+start c = read c .before .before .before .before .before .before .before .before .before .before
 
 -- ---- the first turn
 
@@ -101,34 +101,34 @@ loop-again c =
 
 held-there : tie.Need-part-print-last-end Inv-loop μ-loop
 held-there c =
-    let loop = c .before .before in
-    omega (arith, start loop .pre .0, loop .loop .inv .0, loop .loop .inv .1, read loop .read-on .kept)
+    let over = c .before in
+    let loop = over .before .before in
+    omega (arith, over .left-over .ensures .1, start loop .pre .0, loop .loop .inv .0, loop .loop .inv .1, read loop .read-on .kept)
 
 last-fits : tie.Need-print-last-requires Inv-loop μ-loop
 last-fits c κs =
-    let loop = c .before .before .before .before .before .before in
+    let loop = c .before .before .before .before .before .before .before in
     let inv = loop .loop .inv in
     room-kept _ _ _ (start loop .pre .1) (inv .0 .1) (inv .0 .2) (inv .0 .3)
 
+-- from the end back to the last line and to the loop
+abbrev last : tie.After-slice-known13 Inv-loop μ-loop → tie.After-print-last Inv-loop μ-loop
+last c = c .before .before .before .before .before .before
+
+abbrev left : tie.After-slice-known13 Inv-loop μ-loop → tie.At-loop Inv-loop μ-loop
+left c = last c .before .before .before .before .before .before .before .before
+
 same-text : tie.Need-same-length-5 Inv-loop μ-loop
-same-text c =
-    let loop = c .before .before .before .before .before .before .before .before .before .before .before .before .before in
-    omega (arith, loop .loop .inv .0, read loop .read-on .kept)
+same-text c = omega (arith, left c .loop .inv .0, read (left c) .read-on .kept)
 
 same-digits : tie.Need-same-length-6 Inv-loop μ-loop
-same-digits c =
-    let last = c .before .before .before .before .before .before in
-    omega (arith, last .print-last .kept, last .before .before .before .before .before .before .before .loop .inv .0)
+same-digits c = omega (arith, last c .print-last .kept, left c .loop .inv .0)
 
 same-bytes : tie.Need-same-length-7 Inv-loop μ-loop
-same-bytes c =
-    let last = c .before .before .before .before .before .before in
-    omega (arith, last .print-last .kept, last .before .before .before .before .before .before .before .loop .inv .0)
+same-bytes c = omega (arith, last c .print-last .kept, left c .loop .inv .0)
 
 same-out : tie.Need-same-length-8 Inv-loop μ-loop
-same-out c =
-    let last = c .before .before .before .before .before .before in
-    omega (arith, last .print-last .kept, last .before .before .before .before .before .before .before .loop .inv .0)
+same-out c = omega (arith, last c .print-last .kept, left c .loop .inv .0)
 
 pub run-spec : {M : Type 1} → statement M
 run-spec =
@@ -137,5 +137,5 @@ run-spec =
     Inv-loop μ-loop (λ c. search needs) (λ c κs. search needs) (λ c κs. search needs) (λ c. search needs) (λ c κs. search needs)
     (λ c κs. search needs) loop-holds (λ c. search needs) (λ c. search needs) (λ c. search needs) lines-fit (λ c κs. search needs)
     stopped-text stopped-digits stopped-bytes stopped-out (λ c. search needs) rest-there room-left turns-there
-    (λ c. c .turns-left2 .ensures .1) loop-again (λ c. search needs) (λ c. search needs) held-there last-fits same-text same-digits
-    same-bytes same-out (λ c. search needs))
+    (λ c. c .turns-left2 .ensures .1) loop-again (λ c κs. search needs) (λ c. search needs) (λ c. search needs) held-there last-fits
+    same-text same-digits same-bytes same-out (λ c. search needs))

@@ -1,4 +1,5 @@
-use mathlib.Core.Path.{_≡_, sym}
+use mathlib.Core.Path.{_≡_, refl, sym, _∙_}
+use mathlib.Core.Bool.{false≢true}
 use Prim.Native.Nat.{_-_, _≤_}
 use native.Mathlib.Omega.{arith}
 use lib.ListN.{length}
@@ -8,24 +9,21 @@ use Rattle.line_input.proofs.read_full.Statement.{statement}
 use Rattle.line_input.proofs.read_full.Tie as tie
 
 abbrev Inv-loop : tie.InvT-loop
-Inv-loop text₀ held₀ took₀ text held took = (length text ≡ length text₀) × (took .end ≤ length text)
+Inv-loop text₀ held₀ last₀ text held last = (length text ≡ length text₀) × (last .end ≤ length text)
 
 abbrev μ-loop : tie.MeasureT-loop
-μ-loop text₀ held₀ took₀ text held took = length text - held
+μ-loop text₀ held₀ last₀ text held last = length text - held
 
+-- where a read failed nothing counts
 returns : tie.Need-returns Inv-loop μ-loop
-returns c = let inv = c .before .before .loop .inv in (inv .1, sym (length-take-le _ _ (inv .1)))
+returns c = ((omega arith, refl), λ _. refl)
+
+returns-2 : tie.Need-returns-2 Inv-loop μ-loop
+returns-2 c = let inv = c .before .before .before .loop .inv in ((inv .1, sym (length-take-le _ _ (inv .1))), λ e. absurd (false≢true (sym (c .if2 .left) ∙ e)))
 
 pub read-full-spec : {M : Type 1} → statement M
 read-full-spec =
     tie.close
     (tie.spec
-    Inv-loop
-    μ-loop
-    (λ c κs. search needs)
-    (λ c. search needs)
-    (λ c κs. search needs)
-    (λ c. search needs)
-    (λ c. search needs)
-    (λ c. search needs)
-    returns)
+    Inv-loop μ-loop (λ c κs. search needs) (λ c. search needs) (λ c κs. search needs) (λ c. search needs) (λ c. search needs) (λ c. search needs)
+    returns (λ c. search needs) returns-2)

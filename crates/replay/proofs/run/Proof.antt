@@ -5,7 +5,8 @@ use native.Mathlib.Omega.{arith}
 use lib.Dec.{ltb}
 use borrow.Author.Tests.{lt-ltb}
 use lib.ListN.{length, length-take, length-drop}
-use Rattle.line_input.specs.Sizes.{longest, much}
+use Rattle.script_state.specs.Start.{much}
+use Rattle.line_input.specs.Sizes.{longest}
 use Rattle.line_runner.proofs.Leaving.{lent-kept}
 use borrow.Author.Needs.{needs}
 use Rattle.replay.proofs.run.Statement.{statement}
@@ -117,19 +118,20 @@ failed-out c = let lines = ran (kept c) in omega (arith, lines .run-lines .kept,
 
 part-run-last-end : tie.Need-part-run-last-end Inv-loop μ-loop
 part-run-last-end c =
-    let loop = c .before .before in
-    omega (arith, loop .loop .inv .0, loop .loop .inv .1 .0, read loop .read-on .kept, start loop .pre .0)
+    let over = c .before in
+    let loop = over .before .before in
+    omega (arith, over .left-over .ensures .1, loop .loop .inv .0, loop .loop .inv .1 .0, read loop .read-on .kept, start loop .pre .0)
 
 run-last-requires : tie.Need-run-last-requires Inv-loop μ-loop
 run-last-requires c κs =
-    let loop = c .before .before .before .before .before .before .before in
+    let loop = c .before .before .before .before .before .before .before .before in
     let inv = loop .loop .inv in
     (lent-kept (start loop .pre .1) (inv .0 .1, inv .0 .2, inv .0 .3, omega (arith, inv .0, begun loop .start .kept)), inv .1 .2)
 
 flushed-requires-2 : tie.Need-flushed-requires-2 Inv-loop μ-loop
 flushed-requires-2 c κs =
     let last = c .before .before .before .before .before .before .before .before .before in
-    let loop = last .before .before .before .before .before .before .before .before in
+    let loop = last .before .before .before .before .before .before .before .before .before in
     omega (arith, last .run-last .ensures .1 .1 .0, last .run-last .kept, loop .loop .inv .0, begun loop .start .kept, start loop .pre .1 .output)
 
 -- at the end, back to the last line and to the loop
@@ -137,7 +139,7 @@ abbrev last : tie.After-ended2 Inv-loop μ-loop → tie.After-run-last Inv-loop 
 last c = c .before .before .before .before .before .before .before .before .before .before .before
 
 abbrev left : tie.After-ended2 Inv-loop μ-loop → tie.At-loop Inv-loop μ-loop
-left c = last c .before .before .before .before .before .before .before .before
+left c = last c .before .before .before .before .before .before .before .before .before
 
 same-text : tie.Need-same-length-6 Inv-loop μ-loop
 same-text c = omega (arith, left c .loop .inv .0, read (left c) .read-on .kept)
@@ -161,6 +163,6 @@ run-spec =
     Inv-loop μ-loop (λ c κs. search needs) (λ c κs. search needs) (λ c κs. search needs) loop-holds (λ c. search needs) (λ c. search needs)
     (λ c. search needs) run-lines-requires keep-requires flushed-requires (λ c κs. search needs)
     failed-text failed-upload failed-response failed-scratch failed-out (λ c. search needs)
-    read-on-requires-2 turns-left-requires-2 (λ c. c .turns-left2 .ensures .1) loop-again (λ c. search needs)
+    read-on-requires-2 turns-left-requires-2 (λ c. c .turns-left2 .ensures .1) loop-again (λ c κs. search needs) (λ c. search needs)
     (λ c. search needs) part-run-last-end run-last-requires flushed-requires-2 (λ c κs. search needs)
     same-text same-upload same-response same-scratch same-out (λ c. search needs))

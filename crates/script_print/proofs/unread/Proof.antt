@@ -9,7 +9,7 @@ returns : tie.Need-returns
 returns c =
     let put = c .before .before .before .before .before in
     let state = put .before .before .before .before .args .step .state in (
-      ap (λ (n : ℕ). record { config = state .config; table = state .table; number = state .number; unread = n }) (c .wrapping-add-u64 .ensures),
+      ap (λ (n : ℕ). record { config = state .config; table = state .table; number = state .number; unreadable = n }) (c .wrapping-add-u64 .ensures),
       (put .put-unreadable .ensures .0, (omega (arith, put .put-unreadable .ensures .1), refl)),
     )
 

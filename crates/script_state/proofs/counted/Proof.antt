@@ -8,7 +8,7 @@ returns : tie.Need-returns
 returns c =
     let step = c .before .before .before .before .args .step in
     let state = step .state in
-    ap (λ (n : ℕ). record { state = record { config = state .config; table = state .table; number = n; unread = state .unread }; at = step .at; written = step .written })
+    ap (λ (n : ℕ). record { state = record { config = state .config; table = state .table; number = n; unreadable = state .unreadable }; at = step .at; written = step .written })
     (c .wrapping-add-u64 .ensures)
 
 pub counted-spec : {M : Type 1} → statement M

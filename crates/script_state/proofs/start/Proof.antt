@@ -1,4 +1,4 @@
-use mathlib.Core.Path.{_≡_, refl, sym, ap, _∙_}
+use mathlib.Core.Path.{refl}
 use native.Mathlib.Omega.{arith}
 use borrow.Author.Needs.{needs}
 use Rattle.script_state.proofs.start.Statement.{statement}
@@ -7,7 +7,7 @@ use Rattle.script_state.proofs.start.Tie as tie
 returns : tie.Need-returns
 returns c =
     let put = c .before .before .before .before .put .ensures in
-    (λ i. record { config = c .script-config .ensures i; table = c .before .fresh .ensures i; number = 0; unread = 0 }, (put, (omega (arith, put .to), refl)))
+    (λ i. record { config = c .script-config .ensures i; table = c .before .fresh .ensures i; number = 0; unreadable = 0 }, (put, (omega (arith, put .to), refl)))
 
 pub start-spec : {M : Type 1} → statement M
 start-spec =

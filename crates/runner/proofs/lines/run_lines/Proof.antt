@@ -3,7 +3,7 @@ use mathlib.Core.Bool.{false}
 use Prim.Native.Nat.{_-_, _≤_}
 use native.Mathlib.Omega.{arith}
 use lib.ListN.{length, take}
-use Rattle.line_input.specs.Sizes.{much}
+use Rattle.script_state.specs.Start.{much}
 use Rattle.script_state.specs.declared.State.{State}
 use Rattle.script_state.specs.declared.Step.{Step}
 use Rattle.runner.specs.Lines.{standing}
@@ -75,7 +75,7 @@ loop-again c =
       (omega (arith, kept, loop .inv .0), omega (arith, kept, loop .inv .0), omega (arith, kept, loop .inv .0), omega (arith, kept, loop .inv .0)),
       (
         few (ran .run-any .result .at) _ (flushed .0 .1),
-        λ e. flushed .1 (left .written ∙ loop .inv .1 .1 e),
+        λ e. flushed .1 .1 (left .written ∙ loop .inv .1 .1 e),
         going-on _ _ _ _ _ _ _ _ (loop .inv .1 .2) (counted .before .loop-test .taken) _ _ _
             (ap (λ (x : State). standing x (last .0) (last .1 .0)) (flushed .0 .0) ∙ stands _ stood _ left refl refl)
             (put-flushed (left .text) (flushed .0 .1)) (c .mark-from2 .ensures),
