@@ -1,14 +1,15 @@
-// The table of sixteen entries and its clock: whether no two have one key, expiry, and an entry put in its place.
+// The table of sixteen entries, its clock and the bytes that they hold: whether no two have one key, expiry, and an entry put in its place.
 use entries::Entry;
 ghost use mathlib.Core.Path.{_≡_};
 ghost use lib.ListN.{length, drop};
 ghost use Rattle.entries.specs.Entries.{sweep};
-ghost use Rattle.block_table.specs.Table.{distinct, tableWith, freshTable};
-ghost use Rattle.block_table.specs.Quick.{alone};
+ghost use Rattle.block_table.specs.Table.{distinct, freshTable};
+ghost use Rattle.block_table.specs.Quick.{alone, figured};
 
 #[repr(C)]
 pub struct Table {
     pub clock: u64,
+    pub held: u64,
     pub entries: [Entry; 16],
 }
 
@@ -61,9 +62,9 @@ pub fn sweep_row(entries: [Entry; 16], lifetime: u64, time: u64) -> [Entry; 16]
 
 // ---- One entry, and a fresh table
 
-// The row with this entry at i, and the clock recorded. An i of 16 or more changes no entry.
-pub fn put_entry(entries: [Entry; 16], clock: u64, i: usize, e: Entry) -> Table
-    ensures { λ r. ⌜ r ≡ tableWith clock entries i e ⌝ }
+// The row with this entry at i, the clock recorded, and a figure that the caller keeps. An i of 16 or more changes no entry.
+pub fn put_entry(entries: [Entry; 16], clock: u64, held: u64, i: usize, e: Entry) -> Table
+    ensures { λ r. ⌜ r ≡ figured clock held entries i e ⌝ }
 {
     let mut row = entries;
     if i < 16 {
@@ -71,6 +72,7 @@ pub fn put_entry(entries: [Entry; 16], clock: u64, i: usize, e: Entry) -> Table
     }
     Table {
         clock: clock,
+        held: held,
         entries: row,
     }
 }
@@ -81,6 +83,14 @@ pub fn fresh() -> Table
     let e = entries::free_entry();
     Table {
         clock: 0,
+        held: 0,
         entries: [e; 16],
     }
+}
+
+// The bytes that the entries in use hold, if the table is within its limits: the figure is read, and nothing is counted.
+pub fn bytes_held(table: Table) -> u64
+    ensures { λ r. ⌜ r ≡ table .held ⌝ }
+{
+    table.held
 }

@@ -1,5 +1,5 @@
 -- A call by its verdict, and a call at its place as the code makes it. Assumes nothing.
-use Prim.Native.Nat.{ℕ, _+_, _-_, _*_, _≤_}
+use Prim.Native.Nat.{ℕ, _+_, _-_, _*_, _≤_, _<_}
 use mathlib.Core.Path.{_≡_, refl, sym, ap, _∙_}
 use mathlib.Core.Bool.{Bool, true, false, _&&_}
 use mathlib.Core.List.{List, _++_}
@@ -26,9 +26,11 @@ use Rattle.keys.specs.declared.Key.{Key}
 use Rattle.keys.specs.Keys.{Name, stored}
 use Rattle.entries.specs.declared.Entry.{Entry}
 use Rattle.block_table.specs.declared.Table.{Table}
-use Rattle.entries.specs.Entries.{sweep}
-use Rattle.block_table.proofs.Row.{at-sweep}
-use Rattle.block_table.proofs.Changed.{with-same}
+use Rattle.entries.specs.Entries.{inUse, sweep}
+use Rattle.entries.specs.Held.{heldBy, held}
+use Rattle.block_table.specs.Table.{at}
+use Rattle.block_table.proofs.Row.{length-sweep, at-sweep}
+use Rattle.block_table.proofs.Changed.{with-figure}
 use Rattle.places.specs.declared.Place.the-variants.{At}
 use Rattle.places.specs.declared.Sight.{Sight}
 use Rattle.key_place.specs.Place.{place}
@@ -40,7 +42,7 @@ use Rattle.judge.specs.declared.Lengths.{Lengths}
 use Rattle.judge.specs.declared.Verdict.{Verdict}
 use Rattle.judge.specs.declared.Verdict.the-variants as verdict
 use Rattle.judge.specs.Verdict.{lengths, messageOk, limitsOk, verdictOf, HasPlace}
-use Rattle.judge.proofs.Judged.{verdict-is, at-place, seen-entry, seen-freed}
+use Rattle.judge.proofs.Judged.{verdict-is, at-place, seen-entry, seen-others, seen-freed}
 use Rattle.call.specs.Call.{World, Call, Done, done, whatOk, withinLimits, tableAfter, requestLeft, responseLeft, callAt, rowOf, call}
 use Rattle.call.specs.Contract.{world, askedAt}
 
@@ -103,11 +105,14 @@ module _ (c : Config) (s : Sight) (time : ℕ) (key : Name) (n : Lengths) (i : �
       let here = at-place c t time key n i (has .1) in
       rw (is-own, seen-entry c s time key n i t has, ← (here .is), ← at-sweep (c .lifetime) time (t .entries) i)
 
-  -- its change: the entry is put into the swept row, which may be the row itself
+  -- its change: the entry is put into the swept row, which may be the row itself, and the figure is that row's
   pub changed-at : (k : Key) (g : Stepped) → changed (c .lifetime) time t (changeTo s i time k g) ≡ tableAfter swept-row time i k (g .state)
   changed-at k g =
       let here = at-place c t time key n i (has .1) in
-      with-same time _ _ i _ _ (here .kept (s .freed) (has .0 .2) (seen-freed c s time key n i t has)) refl
+      let e = inUse k time (g .state) in
+      let beside : s .others ≡ held swept-row - heldBy (at swept-row i) = seen-others c s time key n i t has ∙ rw (at-sweep (c .lifetime) time (t .entries) i) in
+      let below : i < length swept-row = rw (length-sweep (c .lifetime) time (t .entries), has .0 .1) (here .below) in
+      rw (here .kept (s .freed) (has .0 .2) (seen-freed c s time key n i t has)) (with-figure time swept-row i e (s .others + heldBy e) below (rw beside))
 
 -- ---- a piece that was lent
 

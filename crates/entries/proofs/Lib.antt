@@ -1,4 +1,5 @@
 pub mod Entries
+pub mod Held
 pub mod Cases
 pub mod Quick
 pub mod Turns

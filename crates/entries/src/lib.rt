@@ -1,4 +1,4 @@
-// One entry of the table: its limits, its tag, whether two have one key, expiry, and how a key's entry starts.
+// One entry of the table: its limits, its tag, whether two have one key, the bytes it holds, expiry, and how a key's entry starts.
 use block_state::Assembled;
 use block_state::BlockState;
 use block_state::Cached;
@@ -7,10 +7,11 @@ use config::Config;
 use keys::Key;
 ghost use mathlib.Core.Path.{_≡_};
 ghost use mathlib.Core.Bool.{true, false};
-ghost use Prim.Native.Nat.{_<_};
+ghost use Prim.Native.Nat.{_≤_, _<_};
 ghost use Rattle.block_state.specs.State.{nothing};
 ghost use Rattle.keys.specs.Keys.{keySized};
 ghost use Rattle.entries.specs.Entries.{free, startFrom, entryOk, clash, swept};
+ghost use Rattle.entries.specs.Held.{heldIn, heldBy};
 ghost use Rattle.entries.specs.Quick.{tagOf, sized};
 
 #[repr(C)]
@@ -73,6 +74,28 @@ pub fn clashes(e: Entry, f: Entry) -> bool
     let a = e.key;
     let b = f.key;
     keys::same_key(a, b)
+}
+
+// ---- The bytes held
+
+fn held_in(cached: Cached) -> u64
+    ensures { λ r. ⌜ (r ≡ heldIn cached) × (r ≤ 4294967550) ⌝ }
+{
+    if cached.held {
+        return wide::u64_of_u8(cached.head) + wide::u64_of_u32(cached.payload);
+    }
+    0
+}
+
+// What an entry holds, which is below 2^34 even off its limits.
+pub fn held_by(e: Entry) -> u64
+    ensures { λ r. ⌜ (r ≡ heldBy e) × (r < 17179869184) ⌝ }
+{
+    if e.used {
+        let cached = e.state.cached;
+        return wide::u64_of_u32(e.state.assembled.len) + held_in(cached);
+    }
+    0
 }
 
 // ---- Expiry

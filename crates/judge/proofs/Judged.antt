@@ -15,13 +15,13 @@ use Rattle.block_table.specs.declared.Table.{Table}
 use Rattle.keys.specs.Keys.{Name, keyOk}
 use Rattle.entries.specs.declared.Entry.{Entry}
 use Rattle.entries.specs.Entries.{entryOk, sweep}
-use Rattle.block_table.specs.Table.{tableOk, distinct, at}
+use Rattle.block_table.specs.Table.{tableOk, at}
 use Rattle.places.specs.declared.Place.{Place as Spot}
 use Rattle.places.specs.declared.Place.the-variants.{At}
 use Rattle.key_place.specs.Place.{place}
 use Rattle.places.specs.Places.{placeOf, opened}
 use Rattle.places.specs.declared.Sight.{Sight}
-use Rattle.places.specs.Sight.{placeIn, indexOf, sightAt, Sees}
+use Rattle.places.specs.Sight.{placeIn, indexOf, heldBeside, sightAt, Sees}
 use Rattle.keys.specs.Lists.{all}
 use Rattle.entries.specs.Quick.{sized, unexpired}
 use Rattle.block_table.proofs.Turns.{sweep-kept}
@@ -50,7 +50,7 @@ config-fits c h =
 
 each-within : (c : Config) (t : Table) → tableOk c t ≡ true → all (entryOk c (t .clock)) (t .entries) ≡ true
 unfolding tableOk
-each-within c t h = and-left (all (entryOk c (t .clock)) (t .entries)) (distinct (t .entries)) h
+each-within c t h = search ands
 
 -- ---- the verdict by its cases
 
@@ -204,6 +204,11 @@ module _ (c : Config) (s : Sight) (time : ℕ) (key : Name) (n : Lengths) (i : �
   pub seen-entry : s .entry ≡ at (t .entries) i
   unfolding sightAt
   seen-entry = ap (λ (z : Sight). z .entry) (h .0 .0) ∙ ap (λ (p : Spot). at (t .entries) (indexOf p)) seen-place ∙ rw (lt-ltb i 16 (told .below))
+
+  pub seen-others : s .others ≡ heldBeside (c .lifetime) time (t .entries) i
+  unfolding sightAt
+  seen-others =
+      ap (λ (z : Sight). z .others) (h .0 .0) ∙ ap (λ (p : Spot). heldBeside (c .lifetime) time (t .entries) (indexOf p)) seen-place ∙ rw (lt-ltb i 16 (told .below))
 
   pub seen-freed : s .freed ≡ not (all (unexpired (c .lifetime) time) (t .entries))
   unfolding sightAt

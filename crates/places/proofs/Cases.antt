@@ -1,7 +1,7 @@
 -- The key's place in a table, by the cases of the code. Assumes nothing.
 use mathlib.Core.Path.{_≡_, sym, ap, _∙_}
 use mathlib.Core.List.{List}
-use mathlib.Core.Bool.{Bool, true, false, cond}
+use mathlib.Core.Bool.{Bool, true, false, cond, _&&_}
 use Prim.Native.Nat.{ℕ, _<_}
 use native.Mathlib.Omega.{arith}
 use lib.ListN.{length, getD}
@@ -13,7 +13,7 @@ use Rattle.block_table.specs.declared.Table.{Table}
 use Rattle.keys.specs.Lists.{find, all}
 use Rattle.keys.specs.Keys.{Name, tagOf}
 use Rattle.entries.specs.Entries.{entryOk, sweep}
-use Rattle.block_table.specs.Table.{distinct, tableOk}
+use Rattle.block_table.specs.Table.{distinct, figureOk, tableOk}
 use Rattle.places.specs.declared.Place.{Place}
 use Rattle.places.specs.declared.Place.the-variants.{OffLimits}
 use Rattle.key_place.specs.Place.{place}
@@ -32,15 +32,19 @@ module _ (c : Config) (t : Table) (k : Name) (lifetime time : ℕ) where
   abbrev found : Place
   found = cond (tableOk c t) there OffLimits
 
-  pub off-each : all (entryOk c (t .clock)) (t .entries) ≡ false → found ≡ OffLimits
+  -- each entry is within its limits, and the figure is the row's
+  abbrev pub each : Bool
+  each = all (entryOk c (t .clock)) (t .entries) && figureOk t
+
+  pub off-each : each ≡ false → found ≡ OffLimits
   unfolding tableOk
   off-each h = rw h
 
-  pub by-bytes : (b : Bool) → all (entryOk c (t .clock)) (t .entries) ≡ true → distinct (t .entries) ≡ b → found ≡ cond b there OffLimits
+  pub by-bytes : (b : Bool) → each ≡ true → distinct (t .entries) ≡ b → found ≡ cond b there OffLimits
   unfolding tableOk
   by-bytes b h d = rw (h, d)
 
-  by-tags : length (t .entries) ≡ 16 → all (entryOk c (t .clock)) (t .entries) ≡ true
+  by-tags : length (t .entries) ≡ 16 → each ≡ true
       → eqb (pairs (tagsFrom 0 (t .entries)) (tagsFrom 0 (t .entries))) 16 ≡ true → (i : ℕ) → place k (sweep lifetime time (t .entries)) ≡ i → standing i ≡ found
   unfolding placeOf
   by-tags len h apart i is =
@@ -48,7 +52,7 @@ module _ (c : Config) (t : Table) (k : Name) (lifetime time : ℕ) where
       sym (by-bytes true h (distinct-by (t .entries) 0 told) ∙ ap (λ (z : ℕ). standing z) is)
 
   -- by the first entry with the key's own tag
-  module _ (row : List ℕ) (own i : ℕ) (len : length (t .entries) ≡ 16) (h : all (entryOk c (t .clock)) (t .entries) ≡ true)
+  module _ (row : List ℕ) (own i : ℕ) (len : length (t .entries) ≡ 16) (h : each ≡ true)
       (tags : row ≡ tagsFrom 0 (t .entries)) (apart : eqb (pairs row row) 16 ≡ true) (tag : own ≡ tagOf k) (first : i ≡ find (λ x. eqb x own) row) where
     told : eqb (pairs (tagsFrom 0 (t .entries)) (tagsFrom 0 (t .entries))) 16 ≡ true
     told = rw tags at apart

@@ -1,8 +1,9 @@
 -- What a walk over the row sees, turn by turn, and the place that follows from it. Assumes nothing.
 use mathlib.Core.Path.{_≡_, refl, sym, ap, _∙_}
-use mathlib.Core.List.{List}
+use mathlib.Core.List.{List, map}
 use mathlib.Core.Bool.{Bool, true, false, not, cond, _&&_, _||_}
-use Prim.Native.Nat.{ℕ, _+_, _-_, _≤_, _<_}
+use Prim.Native.Nat.{ℕ, _+_, _-_, _*_, _^_, _≤_, _<_}
+use native.Mathlib.Nat.{add-assoc, add-zero}
 use native.Mathlib.Omega.{arith}
 use lib.ListN.{length, getD, drop, drop-of-length-le}
 use lib.Dec.{leb, ltb, eqb}
@@ -15,34 +16,43 @@ use Rattle.keys.specs.Keys.{Name, keyOk, tagOf}
 use Rattle.keys.proofs.Turns.{drop-step, all-go, all-end, find-go, find-here}
 use Rattle.expiry.specs.Expiry.{liveBy, expiredBy}
 use Rattle.entries.specs.declared.Entry.{Entry}
-use Rattle.entries.specs.Entries.{free as unheld, entryOk, sweep}
+use Rattle.entries.specs.Entries.{free as unheld, entryOk, swept, sweep}
+use Rattle.entries.specs.Held.{heldBy, held as heldIn}
+use Rattle.entries.proofs.Held.{held-at}
 use Rattle.entries.specs.Quick.{holdsLive, notLive, sized, unexpired}
 use Rattle.entries.proofs.Cases.{live-as, unexpired-as}
 use Rattle.block_table.specs.declared.Table.{Table}
-use Rattle.block_table.specs.Table.{distinct, at}
+use Rattle.block_table.specs.Table.{distinct, figureOk, at}
 use Rattle.block_table.specs.Quick.{tagsFrom}
 use Rattle.entries.proofs.Turns.{nil}
+use Rattle.block_table.proofs.Row.{length-sweep, at-sweep}
 use Rattle.block_table.proofs.Turns.{getD-any, freed-go, freed-end}
 use Rattle.places.specs.declared.Seen.{Seen}
 use Rattle.places.specs.declared.Sight.{Sight}
 use Rattle.places.specs.declared.Place.{Place}
+use Rattle.places.specs.declared.Quick.{Quick}
 use Rattle.places.specs.declared.Place.the-variants.{OffLimits}
 use Rattle.places.specs.Places.{standing, placeOf}
 use Rattle.places.specs.Sight.{placeIn, index, indexOf, sightAt, seenNext, quickPlace, settled}
-use Rattle.places.proofs.Cases.{off-each, by-bytes, by-own, by-none}
+use Rattle.places.proofs.Cases.{each as within, off-each, by-bytes, by-own, by-none}
+
+and-assoc : (x y z : Bool) → ((x && y) && z) ≡ (x && (y && z))
+and-assoc true y z = refl
+and-assoc false y z = refl
 
 not-not : (b : Bool) → not (not b) ≡ b
 not-not true = refl
 not-not false = refl
 
 -- what one turn makes of what was seen, by what the code tests
-pub seen-by : (c : Config) (clock time : ℕ) (s : Seen) (i : ℕ) (e : Entry) (ok gone lives b : Bool) → ok ≡ entryOk c clock e
+pub seen-by : (c : Config) (clock time : ℕ) (s : Seen) (i : ℕ) (e : Entry) (ok gone lives b : Bool) (n m : ℕ) → ok ≡ entryOk c clock e
     → gone ≡ expiredBy (e .used) (e .touched) (c .lifetime) time → lives ≡ liveBy (e .used) (e .touched) (c .lifetime) time → (leb 16 (s .free) && not lives) ≡ b
-    → _≡_ {A = Seen} (record { ok = s .ok && ok; freed = s .freed || gone; free = cond b i (s .free) }) (seenNext c clock time s i e)
-seen-by c clock time s i e ok gone lives b is-ok is-gone is-live is-first =
+    → n ≡ heldBy e → m ≡ heldBy (swept (c .lifetime) time e)
+    → _≡_ {A = Seen} (record { ok = s .ok && ok; freed = s .freed || gone; free = cond b i (s .free); held = s .held + n; kept = s .kept + m }) (seenNext c clock time s i e)
+seen-by c clock time s i e ok gone lives b n m is-ok is-gone is-live is-first is-held is-kept =
     let old : gone ≡ not (unexpired (c .lifetime) time e) = sym (not-not gone) ∙ ap not (sym (unexpired-as (c .lifetime) time e gone is-gone)) in
     let first : b ≡ (leb 16 (s .free) && notLive (c .lifetime) time e) = sym is-first ∙ ap (λ (z : Bool). leb 16 (s .free) && not z) (sym (live-as (c .lifetime) time e lives is-live)) in
-    λ k. record { ok = s .ok && is-ok k; freed = s .freed || old k; free = cond (first k) i (s .free) }
+    λ k. record { ok = s .ok && is-ok k; freed = s .freed || old k; free = cond (first k) i (s .free); held = s .held + is-held k; kept = s .kept + is-kept k }
 
 -- ---- the walk
 
@@ -56,6 +66,9 @@ module _ (c : Config) (clock time : ℕ) (l : List Entry) (named : Bool) where
   abbrev gone : Entry → Bool
   gone = notLive (c .lifetime) time
 
+  abbrev left : Entry → Entry
+  left = swept (c .lifetime) time
+
   -- what is seen of the first i entries, with what the others add
   pub record Walked (s : Seen) (i : ℕ) : Type 0 where
     pub ok : (s .ok && all good (drop i l)) ≡ (named && all good l)
@@ -63,6 +76,10 @@ module _ (c : Config) (clock time : ℕ) (l : List Entry) (named : Bool) where
     pub free : cond (leb 16 (s .free)) (i + find gone (drop i l)) (s .free) ≡ find gone l
     pub most : s .free ≤ 16
     pub long : all sized (drop i l) ≡ all sized l
+    pub held : s .held + heldIn (drop i l) ≡ heldIn l
+    pub kept : s .kept + heldIn (map left (drop i l)) ≡ heldIn (map left l)
+    pub held-most : s .held ≤ i * 17179869184
+    pub kept-most : s .kept ≤ i * 17179869184
 
   -- what is seen of them all
   pub record Ended (s : Seen) : Type 0 where
@@ -70,9 +87,15 @@ module _ (c : Config) (clock time : ℕ) (l : List Entry) (named : Bool) where
     pub freed : s .freed ≡ not (all fresh l)
     pub free : s .free ≡ find gone l
     pub long : all sized l ≡ true
+    pub held : s .held ≡ heldIn l
+    pub kept : s .kept ≡ heldIn (map left l)
+    pub few : s .kept < 2 ^ 60
 
-  pub walk-starts : Walked (record { ok = named; freed = false; free = 16 }) 0
-  walk-starts = record { ok = refl; freed = refl; free = omega arith; most = omega arith; long = refl }
+  pub walk-starts : Walked (record { ok = named; freed = false; free = 16; held = 0; kept = 0 }) 0
+  walk-starts =
+      record {
+        ok = refl; freed = refl; free = omega arith; most = omega arith; long = refl; held = omega arith; kept = omega arith; held-most = omega arith; kept-most = omega arith;
+      }
 
   module _ (s : Seen) (i : ℕ) (was : Walked s i) where
     module _ (h : i < length l) (sixteen : length l ≡ 16) where
@@ -88,19 +111,20 @@ module _ (c : Config) (clock time : ℕ) (l : List Entry) (named : Bool) where
       lower true = omega arith
       lower false = was .most
 
-      pub walk-goes : (n : Seen) → n ≡ seenNext c clock time s i e → sized e ≡ true → Walked n (i + 1)
-      walk-goes n is z =
+      pub walk-goes : (n : Seen) → n ≡ seenNext c clock time s i e → sized e ≡ true → n .held < s .held + 17179869184 → n .kept < s .kept + 17179869184 → Walked n (i + 1)
+      unfolding heldIn
+      walk-goes n is z held-less kept-less =
           rw is (record {
-            ok = assoc (s .ok) (good e) (all good (drop (i + 1) l)) ∙ rw (drop-step l i nil h) at (was .ok);
+            ok = and-assoc (s .ok) (good e) (all good (drop (i + 1) l)) ∙ rw (drop-step l i nil h) at (was .ok);
             freed = freed-go fresh l i (s .freed) (not (all fresh l)) (not (fresh e)) h (sym (not-not (fresh e))) (was .freed);
             free = still (leb 16 (s .free)) refl (gone e) refl;
             most = lower (leb 16 (s .free) && gone e);
             long = all-go sized l i nil h z ∙ was .long;
+            held = add-assoc (s .held) (heldBy e) (heldIn (drop (i + 1) l)) ∙ rw (drop-step l i nil h) at (was .held);
+            kept = add-assoc (s .kept) (heldBy (left e)) (heldIn (map left (drop (i + 1) l))) ∙ rw (drop-step l i nil h) at (was .kept);
+            held-most = omega (arith, was .held-most, rw is at held-less);
+            kept-most = omega (arith, was .kept-most, rw is at kept-less);
           })
-        where
-          assoc : (x y w : Bool) → ((x && y) && w) ≡ (x && (y && w))
-          assoc true y w = refl
-          assoc false y w = refl
 
     module _ (h : length l ≤ i) (low : i ≤ 16) (sixteen : length l ≡ 16) where
       and-true : (x : Bool) → (x && true) ≡ x
@@ -113,22 +137,31 @@ module _ (c : Config) (clock time : ℕ) (l : List Entry) (named : Bool) where
           omega (arith, leb-true 16 (s .free) y, was .most)
 
       pub walk-ends : Ended s
+      unfolding heldIn
       walk-ends =
           record {
             ok = sym (and-true (s .ok)) ∙ rw (all-end good l i h) at (was .ok);
             freed = freed-end fresh l i (s .freed) (not (all fresh l)) h (was .freed);
             free = by-cases (leb 16 (s .free)) (λ y. at-end y (rw y at (was .free))) (λ n. rw n at (was .free));
             long = sym (was .long) ∙ all-end sized l i h;
+            held = sym (add-zero (s .held)) ∙ rw (drop-of-length-le l h) at (was .held);
+            kept = sym (add-zero (s .kept)) ∙ rw (drop-of-length-le l h) at (was .kept);
+            few = omega (arith, was .kept-most);
           }
 
 -- ---- the place
+
+-- the figure is the row's exactly if it is what the walk counted
+pub within-all : (t : Table) (ok named key all : Bool) (n : ℕ) → named ≡ key → ok ≡ (named && all) → n ≡ heldIn (t .entries) → (ok && eqb (t .held) n) ≡ (key && (all && figureOk t))
+unfolding figureOk
+within-all t ok named key all n same is counted = rw (is, same, counted) (and-assoc key all (eqb (t .held) (heldIn (t .entries))))
 
 module _ (c : Config) (t : Table) (k : Name) (time : ℕ) where
   abbrev row : List Entry
   row = t .entries
 
   abbrev each : Bool
-  each = all (entryOk c (t .clock)) row
+  each = within c t k (c .lifetime) time
 
   off : (named some : Bool) → keyOk k ≡ named → each ≡ some → (named && some) ≡ false → OffLimits ≡ placeIn c time k t
   unfolding placeIn
@@ -136,9 +169,9 @@ module _ (c : Config) (t : Table) (k : Name) (time : ℕ) where
   off false some n e h = rw n
 
   -- q is the key as the code has it, and `own` its tag
-  module _ (q : Name) (s : Seen) (tags : List ℕ) (own first : ℕ) (held : Bool) (sixteen : length row ≡ 16) (ok : s .ok ≡ (keyOk k && each))
-      (free : s .free ≡ find (notLive (c .lifetime) time) row) (read : keyOk k ≡ true → q ≡ k) (tag : keyOk k ≡ true → own ≡ tagOf k)
-      (are : tags ≡ tagsFrom 0 row) (is : first ≡ find (λ x. eqb x own) tags) (holds : held ≡ holdsLive (c .lifetime) time q (getD row (index first) nil)) where
+  module _ (q : Name) (well : Bool) (none : ℕ) (tags : List ℕ) (own first : ℕ) (held : Bool) (sixteen : length row ≡ 16) (ok : well ≡ (keyOk k && each))
+      (free : none ≡ find (notLive (c .lifetime) time) row) (read : keyOk k ≡ true → q ≡ k) (tag : keyOk k ≡ true → own ≡ tagOf k)
+      (are : tags ≡ tagsFrom 0 row) (is : first ≡ find (λ x. eqb x own) tags) (r : ℕ) (indexed : r ≡ index first) (holds : held ≡ holdsLive (c .lifetime) time q (getD row r nil)) where
     -- where all is within the limits
     module _ (h : (keyOk k && each) ≡ true) where
       key-ok : keyOk k ≡ true
@@ -148,9 +181,9 @@ module _ (c : Config) (t : Table) (k : Name) (time : ℕ) where
       row-ok = and-right (keyOk k) each h
 
       holds-at : first < 16 → held ≡ holdsLive (c .lifetime) time k (getD row first nil)
-      holds-at below = rw (lt-ltb first 16 below, read key-ok) at holds
+      holds-at below = rw (indexed, lt-ltb first 16 below, read key-ok) at holds
 
-      by-tag : eqb (pairs tags tags) 16 ≡ true → (b : Bool) → (ltb first 16 && held) ≡ b → standing (cond b first (s .free)) ≡ placeIn c time k t
+      by-tag : eqb (pairs tags tags) 16 ≡ true → (b : Bool) → (ltb first 16 && held) ≡ b → standing (cond b first none) ≡ placeIn c time k t
       unfolding placeIn
       by-tag apart true y =
           let below : first < 16 = ltb-true first 16 (and-left (ltb first 16) held y) in
@@ -166,20 +199,29 @@ module _ (c : Config) (t : Table) (k : Name) (time : ℕ) where
       by-all = rw (key-ok, read key-ok) (sym (by-bytes c t k (c .lifetime) time (distinct row) row-ok refl))
 
     -- the quick look tells the place, or what is found byte by byte is
-    pub place-seen : (apart : Bool) → apart ≡ eqb (pairs tags tags) 16
-        → settled (quickPlace s apart first held) (cond (distinct row) (placeOf q (sweep (c .lifetime) time row)) OffLimits) ≡ placeIn c time k t
-    place-seen apart told =
-        by-cases (s .ok)
+    pub place-seen : (apart : Bool) (v : Quick) → apart ≡ eqb (pairs tags tags) 16 → v ≡ quickPlace well none apart first held
+        → settled v (cond (distinct row) (placeOf q (sweep (c .lifetime) time row)) OffLimits) ≡ placeIn c time k t
+    place-seen apart v told quick =
+        rw quick
+        (by-cases well
         (λ y. by-cases apart (λ z. rw (y, z) (by-tag (sym ok ∙ y) (sym told ∙ z) (ltb first 16 && held) refl)) (λ z. rw (y, z) (by-all (sym ok ∙ y))))
-        (λ y. rw y (off (keyOk k) each refl refl (sym ok ∙ y)))
+        (λ y. rw y (off (keyOk k) each refl refl (sym ok ∙ y))))
 
 -- ---- the sight
 
-pub sight-is : (c : Config) (time : ℕ) (t : Table) (p q : Place) (r : ℕ) (freed : Bool) → p ≡ q → r ≡ indexOf p → r < 16 → length (t .entries) ≡ 16
-    → freed ≡ not (all (unexpired (c .lifetime) time) (t .entries))
-    → _≡_ {A = Sight} (record { clock = t .clock; place = p; at = r; entry = getD (t .entries) r nil; freed = freed }) (sightAt c time t q)
-unfolding sightAt
-sight-is c time t p q r freed is-place is-index below sixteen is-freed =
+pub sight-is : (c : Config) (time : ℕ) (t : Table) (p q : Place) (r : ℕ) (freed : Bool) (kept own : ℕ) → p ≡ q → r ≡ indexOf p → r < 16 → length (t .entries) ≡ 16
+    → freed ≡ not (all (unexpired (c .lifetime) time) (t .entries)) → kept ≡ heldIn (map (swept (c .lifetime) time) (t .entries))
+    → own ≡ heldBy (swept (c .lifetime) time (getD (t .entries) r nil))
+    → _≡_ {A = Sight} (record { clock = t .clock; held = t .held; place = p; at = r; entry = getD (t .entries) r nil; freed = freed; others = kept - own }) (sightAt c time t q)
+unfolding sightAt sweep
+sight-is c time t p q r freed kept own is-place is-index below sixteen is-freed is-kept is-own =
     let index : r ≡ indexOf q = is-index ∙ ap (λ (z : Place). indexOf z) is-place in
     let entry : getD (t .entries) r nil ≡ at (t .entries) (indexOf q) = getD-any (t .entries) r nil unheld (omega arith) ∙ ap (at (t .entries)) index in
-    λ k. record { clock = t .clock; place = is-place k; at = index k; entry = entry k; freed = is-freed k }
+    let beside = is-own ∙ ap (λ (e : Entry). heldBy (swept (c .lifetime) time e)) entry in
+    λ k. record { clock = t .clock; held = t .held; place = is-place k; at = index k; entry = entry k; freed = is-freed k; others = is-kept k - beside k }
+
+-- what the entry at an index holds is among what is kept
+pub beside-least : (l : List Entry) (r : ℕ) (lifetime time kept : ℕ) → r < length l → kept ≡ heldIn (map (swept lifetime time) l) → heldBy (swept lifetime time (getD l r nil)) ≤ kept
+unfolding sweep
+beside-least l r lifetime time kept below is =
+    rw (is, getD-any l r nil unheld below, ← at-sweep lifetime time l r) (held-at (sweep lifetime time l) r (rw (length-sweep lifetime time l) below))

@@ -43,6 +43,7 @@ module _ (c : Config) (t : Table) (time : ℕ) (f : TableFits c t) (sixteen : le
             at-set l (place k l) e b (λ j e. entryOk c time e ≡ true)
             (fits-entry c time e refl (record { key = opened-fits .key; touched = omega arith; state = g }))
             (λ j h ne. row-ok c t time f sixteen later j (omega (arith, row-length c t time f sixteen))) j (omega (arith, length-set l (place k l) e));
+        figure = refl;
         unique =
             unique-set l (place k l) e b k
             (λ q h. same-eq q k (sym (holds-new q k (opened k l .key) time s (opened-key k l (row-length c t time f sixteen))) ∙ h)) (row-unique c t time f sixteen)

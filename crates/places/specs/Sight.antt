@@ -1,6 +1,7 @@
 -- What a call sees of the table, and how the code gets to see it. No contract of the handler's two calls, nor of an export, cites this.
-use Prim.Native.Nat.{ℕ}
+use Prim.Native.Nat.{ℕ, _+_, _-_, _^_, _<_}
 use mathlib.Core.Bool.{Bool, true, cond, not, _&&_, _||_}
+use mathlib.Core.List.{List}
 use mathlib.Core.Path.{_≡_}
 use lib.ListN.{length}
 use lib.Dec.{ltb, leb}
@@ -8,7 +9,8 @@ use Rattle.config.specs.declared.Config.{Config}
 use Rattle.keys.specs.Lists.{all}
 use Rattle.keys.specs.Keys.{Name, keyOk}
 use Rattle.entries.specs.declared.Entry.{Entry}
-use Rattle.entries.specs.Entries.{entryOk, sweep}
+use Rattle.entries.specs.Entries.{entryOk, swept, sweep}
+use Rattle.entries.specs.Held.{heldBy, held}
 use Rattle.entries.specs.Quick.{notLive, sized, unexpired}
 use Rattle.block_table.specs.declared.Table.{Table}
 use Rattle.block_table.specs.Table.{tableOk, at}
@@ -34,20 +36,26 @@ indexOf (At i) = index i
 indexOf None = 0
 indexOf OffLimits = 0
 
+-- What the entries that a sweep keeps hold, but for entry i.
+abbrev pub heldBeside : ℕ → ℕ → List Entry → ℕ → ℕ
+heldBeside lifetime time l i = held (sweep lifetime time l) - heldBy (swept lifetime time (at l i))
+
 -- What is seen of the table by a call whose key has this place.
 unfoldable pub sightAt : Config → ℕ → Table → Place → Sight
 sightAt c time t p =
     record {
       clock = t .clock;
+      held = t .held;
       place = p;
       at = indexOf p;
       entry = at (t .entries) (indexOf p);
       freed = not (all (unexpired (c .lifetime) time) (t .entries));
+      others = heldBeside (c .lifetime) time (t .entries) (indexOf p);
     }
 
--- The sight of the table for a call with this key; and what the types give of a row: sixteen entries, and 64 key bytes in each free one.
+-- The sight of the table for a call with this key; and what the types give of a row: sixteen entries, 64 key bytes in each free one, and a bound to what they hold.
 abbrev pub Sees : Config → ℕ → Name → Table → Sight → Type 0
-Sees c time k t s = (s ≡ sightAt c time t (placeIn c time k t)) × (length (t .entries) ≡ 16) × (all sized (t .entries) ≡ true)
+Sees c time k t s = (s ≡ sightAt c time t (placeIn c time k t)) × (length (t .entries) ≡ 16) × (all sized (t .entries) ≡ true) × (s .others < 2 ^ 60)
 
 -- What is seen once entry i is looked at.
 abbrev pub seenNext : Config → ℕ → ℕ → Seen → ℕ → Entry → Seen
@@ -56,11 +64,13 @@ seenNext c clock time s i e =
       ok = s .ok && entryOk c clock e;
       freed = s .freed || not (unexpired (c .lifetime) time e);
       free = cond (leb 16 (s .free) && notLive (c .lifetime) time e) i (s .free);
+      held = s .held + heldBy e;
+      kept = s .kept + heldBy (swept (c .lifetime) time e);
     }
 
--- The key's place by the tags: `first` is the first entry with the key's own, and `held` says that this entry holds it.
-abbrev pub quickPlace : Seen → Bool → ℕ → Bool → Quick
-quickPlace s apart first held = cond (s .ok) (cond apart (Sure (standing (cond (ltb first 16 && held) first (s .free)))) TagsEqual) (Sure OffLimits)
+-- The key's place by the tags: `free` is the first entry that is not live, `first` the first with the key's own tag, and `held` says that this entry holds the key.
+abbrev pub quickPlace : Bool → ℕ → Bool → ℕ → Bool → Quick
+quickPlace ok free apart first held = cond ok (cond apart (Sure (standing (cond (ltb first 16 && held) first free))) TagsEqual) (Sure OffLimits)
 
 -- The place by a quick look, or, where it does not tell, this one.
 abbrev pub settled : Quick → Place → Place

@@ -6,12 +6,13 @@ use keys::Key;
 use keys::NamedKey;
 ghost use mathlib.Core.Path.{_≡_};
 ghost use mathlib.Core.Bool.{true, cond};
-ghost use Prim.Native.Nat.{_<_};
+ghost use Prim.Native.Nat.{_+_, _^_, _<_};
 ghost use lib.ListN.{length};
 ghost use lib.Dec.{eqb};
 ghost use Rattle.keys.specs.Lists.{find};
 ghost use Rattle.keys.specs.Keys.{Name, keyOf, namedOf};
-ghost use Rattle.entries.specs.Entries.{sweep};
+ghost use Rattle.entries.specs.Entries.{swept, sweep};
+ghost use Rattle.entries.specs.Held.{heldBy};
 ghost use Rattle.block_table.specs.Table.{distinct};
 ghost use Rattle.places.specs.declared.Place.the-variants.{OffLimits};
 ghost use Rattle.places.specs.Places.{standing, placeOf};
@@ -34,21 +35,26 @@ pub enum Quick {
     TagsEqual,
 }
 
-// What a call needs of the table: its clock, the place of the key, the entry that stands there now, before any sweep, with its index (the first entry where
-// there is no place), and whether a sweep would free an entry in use.
+// What a call needs of the table: its clock and its figure, the place of the key, the entry that stands there now, before any sweep, with its index (the first entry
+// where there is no place), whether a sweep would free an entry in use, and what the others hold that it would keep.
 pub struct Sight {
     pub clock: u64,
+    pub held: u64,
     pub place: Place,
     pub at: usize,
     pub entry: Entry,
     pub freed: bool,
+    pub others: u64,
 }
 
-// What a walk has seen so far: whether all is within the limits, whether an entry is expired, and the first entry that is not live, or 16.
+// What a walk has seen so far: whether all is within the limits, whether an entry is expired, the first entry that is not live, or 16, and what is held, by all entries
+// and by those that are live.
 pub struct Seen {
     pub ok: bool,
     pub freed: bool,
     pub free: usize,
+    pub held: u64,
+    pub kept: u64,
 }
 
 fn narrow(x: usize) -> u32
@@ -90,20 +96,41 @@ fn find_tag(row: [u32; 16], own: u32) -> usize
     16
 }
 
+// What an entry holds that a sweep keeps.
+fn kept_by(e: Entry, lifetime: u64, time: u64) -> u64
+    ensures { λ r. ⌜ (r ≡ heldBy (swept lifetime time e)) × (r < 17179869184) ⌝ }
+{
+    if expiry::is_live(e.used, e.touched, lifetime, time) {
+        return entries::held_by(e);
+    }
+    0
+}
+
 // What is seen once entry i is looked at.
 fn see(seen: Seen, i: usize, e: Entry, config: Config, clock: u64, time: u64) -> Seen
-    ensures { λ r. ⌜ (r ≡ seenNext config clock time seen i e) × (sized e ≡ true) ⌝ }
+    requires { ⌜ (seen .held < 2 ^ 60) × (seen .kept < 2 ^ 60) ⌝ }
+    ensures { λ r. ⌜ (r ≡ seenNext config clock time seen i e) × (sized e ≡ true) × (r .held < seen .held + 17179869184) × (r .kept < seen .kept + 17179869184) ⌝ }
 {
     let ok = seen.ok & entries::entry_ok(config, clock, e);
     let freed = seen.freed | expiry::is_expired(e.used, e.touched, config.lifetime, time);
     let live = expiry::is_live(e.used, e.touched, config.lifetime, time);
+    let held = seen.held + entries::held_by(e);
+    let kept = seen.kept + kept_by(e, config.lifetime, time);
     if (16 <= seen.free) & !live {
-        return Seen { ok, freed, free: i };
+        return Seen {
+            ok,
+            freed,
+            free: i,
+            held,
+            kept,
+        };
     }
     Seen {
         ok,
         freed,
         free: seen.free,
+        held,
+        kept,
     }
 }
 
@@ -123,11 +150,12 @@ fn index_of(place: Place) -> usize
     }
 }
 
-// The key's place, by what is seen: `first` is where its tag stands, and `held` tells whether the entry there holds it.
-fn quick_place(seen: Seen, apart: bool, first: usize, held: bool) -> Quick
-    ensures { λ r. ⌜ r ≡ quickPlace seen apart first held ⌝ }
+// The key's place, by what is seen: whether all is within the limits, the first entry that is not live, whether the tags differ, where the key's own stands, and whether the
+// entry there holds it.
+fn quick_place(ok: bool, free: usize, apart: bool, first: usize, held: bool) -> Quick
+    ensures { λ r. ⌜ r ≡ quickPlace ok free apart first held ⌝ }
 {
-    if !seen.ok {
+    if !ok {
         return Quick::Sure(Place::OffLimits);
     }
     if !apart {
@@ -136,7 +164,7 @@ fn quick_place(seen: Seen, apart: bool, first: usize, held: bool) -> Quick
     if (first < 16) & held {
         return Quick::Sure(Place::At(first));
     }
-    Quick::Sure(standing(seen.free))
+    Quick::Sure(standing(free))
 }
 
 // Its contract gives the proof the row's length.
@@ -154,10 +182,13 @@ pub fn look(config: Config, table: Table, time: u64, named: NamedKey) -> Sight
     let entries = table.entries;
     let n = count(entries);
     let clock = table.clock;
+    let figure = table.held;
     let mut seen = Seen {
         ok: named.ok,
         freed: false,
         free: 16,
+        held: 0,
+        kept: 0,
     };
     let mut i = 0;
     while i < n {
@@ -176,7 +207,8 @@ pub fn look(config: Config, table: Table, time: u64, named: NamedKey) -> Sight
     let first = find_tag(tags, named.tag);
     let own = entries[index(first)];
     let held = key_place::holds_live(own, config.lifetime, time, key);
-    let place = match quick_place(seen, tags::apart(tags), first, held) {
+    let ok = seen.ok & (figure == seen.held);
+    let place = match quick_place(ok, seen.free, tags::apart(tags), first, held) {
         Quick::Sure(place) => place,
         Quick::TagsEqual => close_place(entries, config.lifetime, time, key),
     };
@@ -184,9 +216,11 @@ pub fn look(config: Config, table: Table, time: u64, named: NamedKey) -> Sight
     let entry = entries[at];
     Sight {
         clock,
+        held: figure,
         place,
         at,
         entry,
         freed: seen.freed,
+        others: seen.kept - kept_by(entry, config.lifetime, time),
     }
 }

@@ -7,12 +7,14 @@ use entries::Entry;
 use keys::Key;
 use places::Sight;
 ghost use mathlib.Core.Path.{_≡_};
+ghost use Prim.Native.Nat.{_^_, _<_};
 ghost use Rattle.table_change.specs.Change.{changed, unchanged, openedFrom, changeTo};
 
-// The entries that are not live may have to be freed, the clock is set, and one entry is put in its place.
+// The entries that are not live may have to be freed, the clock is set, and one entry is put in its place; then the table holds so many bytes.
 pub struct Change {
     pub freed: bool,
     pub clock: u64,
+    pub held: u64,
     pub at: usize,
     pub entry: Entry,
     pub answer: Answer,
@@ -27,6 +29,7 @@ pub fn refused(sight: Sight, n: u8) -> Change
     Change {
         freed: false,
         clock: sight.clock,
+        held: sight.held,
         at: sight.at,
         entry,
         answer,
@@ -41,8 +44,9 @@ pub fn opened_entry(config: Config, sight: Sight, time: u64, key: Key) -> Entry
     entries::start_from(entries::swept_entry(old, config.lifetime, time), key)
 }
 
-// What a step on the entry at i leaves: the entry is in use for its key, and touched now.
+// What a step on the entry at i leaves: the entry is in use for its key, and touched now. What it holds comes in, and what stood there before is not among the others'.
 pub fn leave(sight: Sight, i: usize, time: u64, key: Key, step: Stepped) -> Change
+    requires { ⌜ sight .others < 2 ^ 60 ⌝ }
     ensures { λ r. ⌜ r ≡ changeTo sight i time key step ⌝ }
 {
     let state = step.state;
@@ -56,6 +60,7 @@ pub fn leave(sight: Sight, i: usize, time: u64, key: Key, step: Stepped) -> Chan
     Change {
         freed: sight.freed,
         clock: time,
+        held: sight.others + entries::held_by(entry),
         at: i,
         entry,
         answer,
@@ -70,7 +75,7 @@ pub fn changed_table(table: Table, lifetime: u64, time: u64, change: Change) -> 
     let entry = change.entry;
     if change.freed {
         let row = block_table::sweep_row(entries, lifetime, time);
-        return block_table::put_entry(row, change.clock, change.at, entry);
+        return block_table::put_entry(row, change.clock, change.held, change.at, entry);
     }
-    block_table::put_entry(entries, change.clock, change.at, entry)
+    block_table::put_entry(entries, change.clock, change.held, change.at, entry)
 }

@@ -5,7 +5,7 @@ use Prim.Native.Nat.{_-_, _≤_}
 use native.Mathlib.Omega.{arith}
 use lib.ListN.{length, take}
 use lib.Seq.{take-all}
-use Rattle.keys.specs.Keys.{keyOf}
+use Rattle.keys.specs.Keys.{Name, keyOf, namedOf}
 use Rattle.keys.proofs.Keys.{named-ok, named-read, named-tag}
 use Rattle.entries.specs.Entries.{sweep}
 use Rattle.block_table.specs.Table.{distinct}
@@ -15,23 +15,23 @@ use Rattle.block_table.proofs.Quick.{tags-go, tags-length}
 use Rattle.places.specs.declared.Place.the-variants.{OffLimits}
 use Rattle.places.specs.declared.Quick.{Quick}
 use Rattle.places.specs.Places.{placeOf}
-use Rattle.places.specs.Sight.{settled}
-use Rattle.places.proofs.Looks.{Walked, walk-starts, walk-goes, walk-ends, place-seen, sight-is}
+use Rattle.places.specs.Sight.{placeIn, settled}
+use Rattle.places.proofs.Looks.{Walked, Ended, walk-starts, walk-goes, walk-ends, within-all, place-seen, sight-is, beside-least}
 use borrow.Author.Needs.{needs}
 use Rattle.places.proofs.look.Statement.{statement}
 use Rattle.places.proofs.look.Tie as tie
 
 abbrev Inv-loop : tie.InvT-loop
-Inv-loop config time named entries n clock seen₀ i₀ seen i = (length entries ≡ 16) × ((i ≤ 16) × Walked config clock time entries (named .ok) seen i)
+Inv-loop config time named entries n clock figure seen₀ i₀ seen i = (length entries ≡ 16) × ((i ≤ 16) × Walked config clock time entries (named .ok) seen i)
 
 abbrev μ-loop : tie.MeasureT-loop
-μ-loop config time named entries n clock seen₀ i₀ seen i = 16 - i
+μ-loop config time named entries n clock figure seen₀ i₀ seen i = 16 - i
 
 abbrev Inv-loop2 : tie.InvT-loop2
-Inv-loop2 config time named entries n clock seen i tags₀ j₀ tags j = (length tags ≡ 16) × ((j ≤ 16) × (take j tags ≡ take j (tagsFrom 0 entries)))
+Inv-loop2 config time named entries n clock figure seen i tags₀ j₀ tags j = (length tags ≡ 16) × ((j ≤ 16) × (take j tags ≡ take j (tagsFrom 0 entries)))
 
 abbrev μ-loop2 : tie.MeasureT-loop2
-μ-loop2 config time named entries n clock seen i tags₀ j₀ tags j = 16 - j
+μ-loop2 config time named entries n clock figure seen i tags₀ j₀ tags j = 16 - j
 
 walk-begins : tie.Need-loop-holds Inv-loop μ-loop Inv-loop2 μ-loop2
 walk-begins c = (search needs, (search needs, walk-starts _ _ _ _ _))
@@ -42,7 +42,7 @@ walk-turns c =
     let args = walk .before .before .before .args in
     let walked =
     walk-goes (args .config) (args .table .clock) (args .time) (args .table .entries) _ (walk .loop .seen) (walk .loop .i) (walk .loop .inv .1 .1) (omega arith)
-    (walk .loop .inv .0) _ (c .see .ensures .0) (c .see .ensures .1) in
+    (walk .loop .inv .0) _ (c .see .ensures .0) (c .see .ensures .1) (c .see .ensures .2) (c .see .ensures .3) in
     (walk .loop .inv .0, (omega arith, walked))
 
 tags-turn : tie.Need-loop2-again Inv-loop μ-loop Inv-loop2 μ-loop2
@@ -54,34 +54,75 @@ tags-turn c =
     (tagging .loop2 .inv .1 .1) in
     (search needs, (search needs, go))
 
+-- what both walks come to
+module _ (c : tie.After-quick-place Inv-loop μ-loop Inv-loop2 μ-loop2) where
+  abbrev asked : tie.After-holds-live Inv-loop μ-loop Inv-loop2 μ-loop2
+  asked = c .before .before .before .before
+
+  abbrev own : tie.After-index Inv-loop μ-loop Inv-loop2 μ-loop2
+  own = asked .before .before
+
+  abbrev tagging : tie.At-loop2 Inv-loop μ-loop Inv-loop2 μ-loop2
+  tagging = own .before .before .before .before
+
+  abbrev walk : tie.At-loop Inv-loop μ-loop Inv-loop2 μ-loop2
+  walk = tagging .before .before
+
+  sixteen : length (walk .before .before .before .args .table .entries) ≡ 16
+  sixteen = walk .loop .inv .0
+
+  seen : let args = walk .before .before .before .args in Ended (args .config) (args .table .clock) (args .time) (args .table .entries) (args .named .ok) (walk .loop .seen)
+  seen =
+      let ended : length (walk .before .before .before .args .table .entries) ≤ walk .loop .i = omega arith in
+      walk-ends _ _ _ _ _ (walk .loop .seen) (walk .loop .i) (walk .loop .inv .1 .1) ended (walk .loop .inv .1 .0) sixteen
+
+  tags : tagging .loop2 .tags ≡ tagsFrom 0 (walk .before .before .before .args .table .entries)
+  tags =
+      let j = tagging .loop2 .j in
+      let given = tagging .loop2 .tags in
+      let entries = walk .before .before .before .args .table .entries in
+      sym (take-all j given (omega arith)) ∙ tagging .loop2 .inv .1 .1 ∙ take-all j (tagsFrom 0 entries) (omega (arith, tags-length 0 entries, sixteen))
+
+  -- the place that the tags tell, or, where two are equal, the one found byte by byte
+  there : let args = walk .before .before .before .args in let key = keyOf (args .named .key) in (k : Name) → args .named ≡ namedOf k
+      → settled (c .quick-place .result) (cond (distinct (args .table .entries)) (placeOf key (sweep (args .config .lifetime) (args .time) (args .table .entries))) OffLimits)
+      ≡ placeIn (args .config) (args .time) k (args .table)
+  there k is =
+      let args = walk .before .before .before .args in
+      let found = own .before .find-tag in
+      let ok = within-all (args .table) _ _ _ _ _ (named-ok k (args .named) is) (seen .ok) (seen .held) in
+      place-seen (args .config) (args .table) k (args .time) (keyOf (args .named .key)) _ (walk .loop .seen .free) (tagging .loop2 .tags) (args .named .tag)
+      (found .result) _ sixteen ok (seen .free) (named-read k (args .named) is) (named-tag k (args .named) is) tags (found .ensures) (own .index .result)
+      (own .index .ensures .0) (asked .holds-live .ensures) (c .before .apart .result) _ (c .before .apart .ensures) (c .quick-place .ensures)
+
+-- what the key's entry holds is part of what is kept
+least : tie.Need-sub-t52 Inv-loop μ-loop Inv-loop2 μ-loop2
+least c =
+    let kept = c .before in
+    let indexed = kept .before .before in
+    let quick = indexed .before .before in
+    rw (kept .kept-by .ensures .0) (beside-least (walk quick .before .before .before .args .table .entries) (indexed .index-of .result) _ _ _ (omega (arith, sixteen quick, indexed .index-of .ensures .1)) (seen quick .kept))
+
 returns : tie.Need-returns Inv-loop μ-loop Inv-loop2 μ-loop2
 returns c =
-    let quick = c .before .before .before in
-    let own = quick .before .before .before .before in
-    let tagging = own .before .before .before .before in
-    let walk = tagging .before .before in
-    let args = walk .before .before .before .args in
-    let entries = args .table .entries in
-    let sixteen = walk .loop .inv .0 in
-    let ended : length entries ≤ walk .loop .i = omega arith in
-    let full : tagging .loop2 .j ≡ 16 = omega arith in
-    let tags : tagging .loop2 .tags ≡ tagsFrom 0 entries =
-    sym (take-all 16 (tagging .loop2 .tags) (omega arith)) ∙ rw full at (tagging .loop2 .inv .1 .1) ∙ take-all 16 (tagsFrom 0 entries) (omega (arith, tags-length 0 entries)) in
-    let seen = walk-ends (args .config) (args .table .clock) (args .time) entries _ (walk .loop .seen) (walk .loop .i) (walk .loop .inv .1 .1) ended (walk .loop .inv .1 .0) sixteen in
-    let held = rw (own .index .ensures .0) at (quick .before .before .holds-live .ensures) in
-    let key = keyOf (args .named .key) in
-    let by-bytes = cond (distinct entries) (placeOf key (sweep (args .config .lifetime) (args .time) entries)) OffLimits in
+    let kept = c .before in
+    let indexed = kept .before .before in
+    let quick = indexed .before .before in
+    let args = walk quick .before .before .before .args in
     λ k is.
-    let ok = rw (named-ok k (args .named) is) at (seen .ok) in
-    let there =
-    place-seen (args .config) (args .table) k (args .time) key (walk .loop .seen) (tagging .loop2 .tags) (args .named .tag) (own .before .find-tag .result) _ sixteen ok (seen .free)
-    (named-read k (args .named) is) (named-tag k (args .named) is) tags (own .before .find-tag .ensures) held (quick .before .apart .result) (quick .before .apart .ensures) in
+    let by-bytes = cond (distinct (args .table .entries)) (placeOf (keyOf (args .named .key)) (sweep (args .config .lifetime) (args .time) (args .table .entries))) OffLimits in
     let place =
     ⊎-elim
-    (λ sure. sure .3 ∙ ap (λ (q : Quick). settled q by-bytes) (sym (sure .1 .given .1) ∙ quick .quick-place .ensures) ∙ there)
-    (λ equal. equal .3 ∙ equal .2 .ensures ∙ ap (λ (q : Quick). settled q by-bytes) (sym (equal .1 .given .1) ∙ quick .quick-place .ensures) ∙ there)
-    (c .before .before .match .came) in
-    (sight-is (args .config) (args .time) (args .table) _ _ _ _ place (c .before .index-of .ensures .0) (c .before .index-of .ensures .1) sixteen (seen .freed), sixteen, seen .long)
+    (λ sure. sure .3 ∙ ap (λ (q : Quick). settled q by-bytes) (sym (sure .1 .given .1)) ∙ there quick k is)
+    (λ equal. equal .3 ∙ equal .2 .ensures ∙ ap (λ (q : Quick). settled q by-bytes) (sym (equal .1 .given .1)) ∙ there quick k is)
+    (indexed .before .match .came) in
+    (
+      sight-is (args .config) (args .time) (args .table) _ _ _ _ _ _ place (indexed .index-of .ensures .0) (indexed .index-of .ensures .1) (sixteen quick) (seen quick .freed)
+      (seen quick .kept) (kept .kept-by .ensures .0),
+      sixteen quick,
+      seen quick .long,
+      omega (arith, seen quick .few),
+    )
 
 pub look-spec : {M : Type 1} → statement M
 look-spec =
@@ -92,4 +133,4 @@ look-spec =
     (λ c κs. search needs) (λ c κs. search needs) (λ c. search needs) (λ c. search needs) (λ c. search needs) (λ c. search needs) tags-turn
     (λ c κs. search needs) (λ c κs. search needs) (λ c. search needs) (λ c. search needs) (λ c κs. search needs) (λ c κs. search needs)
     (λ c κs. search needs) (λ c. search needs) (λ c. search needs) (λ c κs. search needs) (λ c κs. search needs) (λ c. search needs)
-    (λ c. search needs) returns)
+    (λ c. search needs) (λ c κs. search needs) least returns)

@@ -49,6 +49,12 @@ step-request-requires c κs =
     let long = lent-length (s .args .upload .now) (s .args .config .upload) (s .args .i) (p .up) in
     record { size = long; small = omega arith; holds = rw long (holds from); home = omega arith; away = omega arith }
 
+leave-requires : tie.Need-leave-requires
+leave-requires c κs =
+    let stepped = c .before .before .before in
+    let from = stepped .before .before .before .before .before .before in
+    from .before .before .before .pre .3 .1 .0 .3
+
 returns : tie.Need-returns
 returns c =
     let stepped = c .before .before .before .before in
@@ -71,5 +77,5 @@ pub request-at-spec : {M : Type 1} → statement M
 request-at-spec =
     tie.close
     (tie.spec
-    (λ c κs. search needs) mul-home mul-away add-end (λ c. search needs) (λ c. search needs) part-ends step-request-requires (λ c κs. search needs)
+    (λ c κs. search needs) mul-home mul-away add-end (λ c. search needs) (λ c. search needs) part-ends step-request-requires leave-requires
     (λ c. search needs) returns)

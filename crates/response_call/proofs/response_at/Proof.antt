@@ -34,6 +34,12 @@ step-response-requires c κs =
     let p = placed s in
     (lent-length (s .args .response .now) (s .args .config .response) (s .args .i) (p .down), omega arith, p .headed)
 
+leave-requires : tie.Need-leave-requires
+leave-requires c κs =
+    let stepped = c .before .before .before in
+    let from = stepped .before .before .before .before .before in
+    from .before .before .before .before .pre .3 .1 .0 .3
+
 returns : tie.Need-returns
 returns c =
     let stepped = c .before .before .before .before in
@@ -55,5 +61,5 @@ pub response-at-spec : {M : Type 1} → statement M
 response-at-spec =
     tie.close
     (tie.spec
-    (λ c κs. search needs) mul-from add-end (λ c. search needs) (λ c. search needs) part-ends step-response-requires (λ c κs. search needs)
+    (λ c κs. search needs) mul-from add-end (λ c. search needs) (λ c. search needs) part-ends step-response-requires leave-requires
     (λ c. search needs) returns)
