@@ -1,13 +1,13 @@
 -- The laws that the code's branches use, by their cases. Assumes nothing.
 use mathlib.Core.Path.{_≡_, refl, sym, ap, _∙_}
-use mathlib.Core.Bool.{Bool, true, false, not, cond, _&&_}
+use mathlib.Core.Bool.{Bool, true, false, not, cond, _&&_, _||_}
 use Prim.Native.Nat.{ℕ, _-_}
 use lib.Dec.{ltb}
 use borrow.Author.Tests.{eqb-true}
 use Rattle.config.specs.declared.Config.{Config}
 use Rattle.block_state.specs.declared.BlockState.{BlockState}
 use Rattle.block_state.specs.State.{nothing, isNothing}
-use Rattle.expiry.specs.Expiry.{liveBy, expiredBy}
+use Rattle.expiry.specs.Expiry.{liveBy}
 use Rattle.entries.specs.declared.Entry.{Entry}
 use Rattle.keys.specs.Keys.{Name, same, keyOf, keySized}
 use Rattle.entries.specs.Entries.{free, holds, live, swept, unused, entryOk}
@@ -32,10 +32,23 @@ module _ (lifetime time : ℕ) (k : Name) (e : Entry) where
   unfolding holdsLive
   held-as b h s = rw (h, s)
 
--- an entry that is not expired, by what the code tests
-pub unexpired-as : (lifetime time : ℕ) (e : Entry) (b : Bool) → b ≡ expiredBy (e .used) (e .touched) lifetime time → unexpired lifetime time e ≡ not b
-unfolding unexpired
-unexpired-as lifetime time e b h = ap not (sym h)
+-- an entry is live, or free, or else expired
+module _ (lifetime time : ℕ) (e : Entry) where
+  pub live-unexpired : live lifetime time e ≡ true → unexpired lifetime time e ≡ true
+  unfolding unexpired
+  live-unexpired h = rw h (or-true (unused e))
+    where
+      or-true : (b : Bool) → (b || true) ≡ true
+      or-true true = refl
+      or-true false = refl
+
+  pub free-unexpired : e .used ≡ false → unexpired lifetime time e ≡ true
+  unfolding unexpired
+  free-unexpired u = rw u
+
+  pub expired : e .used ≡ true → live lifetime time e ≡ false → unexpired lifetime time e ≡ false
+  unfolding unexpired
+  expired u h = rw (h, u)
 
 no : (b : Bool) → not b ≡ true → b ≡ false
 no true h = sym h
@@ -85,12 +98,7 @@ module _ (c : Config) (clock : ℕ) where
   -- where nothing is expired a sweep leaves the entry as it is
   pub kept-by : (lifetime time : ℕ) (e : Entry) (b : Bool) → e .used ≡ b → entryOk c clock e ≡ true → sized e ≡ true → unexpired lifetime time e ≡ true → swept lifetime time e ≡ e
   unfolding sized unexpired live
-  kept-by lifetime time e true u h z x =
-      swept-live lifetime time e (rw u (no-no (ltb (time - e .touched) lifetime) (rw u at x)))
-    where
-      no-no : (b : Bool) → not (not b) ≡ true → b ≡ true
-      no-no true h = refl
-      no-no false h = h
+  kept-by lifetime time e true u h z x = swept-live lifetime time e (rw u (rw u at x))
   kept-by lifetime time e false u h z x =
       swept-dead lifetime time e (rw u) ∙ sym (free-is e u h (rw u at z))
 

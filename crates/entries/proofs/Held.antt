@@ -30,6 +30,11 @@ held-unused e u = rw u
 pub free-holds : heldBy free ≡ 0
 free-holds = held-unused free refl
 
+-- a sweep keeps no more than was there
+pub swept-holds : (lifetime time : ℕ) (e : Entry) → heldBy (swept lifetime time e) ≤ heldBy e
+swept-holds lifetime time e =
+    by-cases (live lifetime time e) (λ y. rw (swept-live lifetime time e y) (omega arith)) (λ n. rw (swept-dead lifetime time e n, free-holds) (omega arith))
+
 cached-most : (c : Config) (h : Cached) → cachedOk c h ≡ true → heldIn h ≤ c .response
 unfolding cachedOk
 cached-most c h ok = go (h .held) refl

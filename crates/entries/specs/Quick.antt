@@ -1,10 +1,9 @@
 -- How the code tests one entry quickly. No contract of the handler's two calls, nor of an export, cites this.
 use Prim.Native.Nat.{ℕ, _*_}
 use mathlib.Core.Bool.{Bool, cond, not, _&&_, _||_}
-use Rattle.expiry.specs.Expiry.{expiredBy}
 use Rattle.entries.specs.declared.Entry.{Entry}
 use Rattle.keys.specs.Keys.{Name, same, keyOf, keySized, tagOf as keyTag}
-use Rattle.entries.specs.Entries.{live}
+use Rattle.entries.specs.Entries.{unused, live}
 
 -- A number that entries in use have in common if their keys are the same. The number of a free entry is even, and apart from every other's.
 unfoldable pub tagOf : Entry → ℕ → ℕ
@@ -23,4 +22,4 @@ sized e = e .used || keySized (e .key)
 
 -- Free, or live: a sweep leaves it as it is, if the table is within its limits.
 unfoldable pub unexpired : ℕ → ℕ → Entry → Bool
-unexpired lifetime time e = not (expiredBy (e .used) (e .touched) lifetime time)
+unexpired lifetime time e = unused e || live lifetime time e

@@ -1,7 +1,7 @@
-// Whether an entry that was touched at a time is live still, or is expired.
+// Whether an entry that was touched at a time is live still.
 ghost use mathlib.Core.Path.{_≡_};
 ghost use Prim.Native.Nat.{_-_};
-ghost use Rattle.expiry.specs.Expiry.{liveBy, expiredBy};
+ghost use Rattle.expiry.specs.Expiry.{liveBy};
 
 fn age(touched: u64, time: u64) -> u64
     ensures { λ r. ⌜ r ≡ time - touched ⌝ }
@@ -13,11 +13,4 @@ pub fn is_live(used: bool, touched: u64, lifetime: u64, time: u64) -> bool
     ensures { λ r. ⌜ r ≡ liveBy used touched lifetime time ⌝ }
 {
     used & (age(touched, time) < lifetime)
-}
-
-pub fn is_expired(used: bool, touched: u64, lifetime: u64, time: u64) -> bool
-    ensures { λ r. ⌜ r ≡ expiredBy used touched lifetime time ⌝ }
-{
-    let idle = age(touched, time);
-    used & !(idle < lifetime)
 }

@@ -37,6 +37,14 @@ pub extern "C" fn block_handler_fresh() -> Table
     block_table::fresh()
 }
 
+// The bytes that the entries in use hold, as the table's figure says: one load.
+#[no_mangle]
+pub extern "C" fn block_handler_bytes_held(table: &Table) -> u64
+    ensures { λ r. ⌜ r ≡ now (table .entry) .held ⌝ }
+{
+    table.held
+}
+
 // For an option with no configuration: plain mode's. It makes no difference to what is read and written.
 fn plain_config() -> Config
     ensures { λ r. ⌜ r ≡ plainConfig ⌝ }

@@ -1,7 +1,7 @@
 -- What a walk over the row sees, turn by turn, and the place that follows from it. Assumes nothing.
 use mathlib.Core.Path.{_≡_, refl, sym, ap, _∙_}
 use mathlib.Core.List.{List, map}
-use mathlib.Core.Bool.{Bool, true, false, not, cond, _&&_, _||_}
+use mathlib.Core.Bool.{Bool, true, false, not, cond, _&&_, _||_, and-false}
 use Prim.Native.Nat.{ℕ, _+_, _-_, _*_, _^_, _≤_, _<_}
 use native.Mathlib.Nat.{add-assoc, add-zero}
 use native.Mathlib.Omega.{arith}
@@ -14,13 +14,13 @@ use Rattle.pieces.proofs.Tests.{and-left, and-right, by-cases}
 use Rattle.keys.specs.Lists.{find, all}
 use Rattle.keys.specs.Keys.{Name, keyOk, tagOf}
 use Rattle.keys.proofs.Turns.{drop-step, all-go, all-end, find-go, find-here}
-use Rattle.expiry.specs.Expiry.{liveBy, expiredBy}
 use Rattle.entries.specs.declared.Entry.{Entry}
-use Rattle.entries.specs.Entries.{free as unheld, entryOk, swept, sweep}
+use Rattle.entries.specs.Entries.{free as unheld, entryOk, live, swept, sweep}
 use Rattle.entries.specs.Held.{heldBy, held as heldIn}
-use Rattle.entries.proofs.Held.{held-at}
+use Rattle.entries.proofs.Held.{held-unused, free-holds, swept-holds, held-at}
 use Rattle.entries.specs.Quick.{holdsLive, notLive, sized, unexpired}
-use Rattle.entries.proofs.Cases.{live-as, unexpired-as}
+use Rattle.entries.proofs.Entries.{swept-live, swept-dead}
+use Rattle.entries.proofs.Cases.{live-unexpired, free-unexpired, expired}
 use Rattle.block_table.specs.declared.Table.{Table}
 use Rattle.block_table.specs.Table.{distinct, figureOk, at}
 use Rattle.block_table.specs.Quick.{tagsFrom}
@@ -40,19 +40,52 @@ and-assoc : (x y z : Bool) → ((x && y) && z) ≡ (x && (y && z))
 and-assoc true y z = refl
 and-assoc false y z = refl
 
+and-true : (x : Bool) → (x && true) ≡ x
+and-true true = refl
+and-true false = refl
+
 not-not : (b : Bool) → not (not b) ≡ b
 not-not true = refl
 not-not false = refl
 
--- what one turn makes of what was seen, by what the code tests
-pub seen-by : (c : Config) (clock time : ℕ) (s : Seen) (i : ℕ) (e : Entry) (ok gone lives b : Bool) (n m : ℕ) → ok ≡ entryOk c clock e
-    → gone ≡ expiredBy (e .used) (e .touched) (c .lifetime) time → lives ≡ liveBy (e .used) (e .touched) (c .lifetime) time → (leb 16 (s .free) && not lives) ≡ b
-    → n ≡ heldBy e → m ≡ heldBy (swept (c .lifetime) time e)
-    → _≡_ {A = Seen} (record { ok = s .ok && ok; freed = s .freed || gone; free = cond b i (s .free); held = s .held + n; kept = s .kept + m }) (seenNext c clock time s i e)
-seen-by c clock time s i e ok gone lives b n m is-ok is-gone is-live is-first is-held is-kept =
-    let old : gone ≡ not (unexpired (c .lifetime) time e) = sym (not-not gone) ∙ ap not (sym (unexpired-as (c .lifetime) time e gone is-gone)) in
-    let first : b ≡ (leb 16 (s .free) && notLive (c .lifetime) time e) = sym is-first ∙ ap (λ (z : Bool). leb 16 (s .free) && not z) (sym (live-as (c .lifetime) time e lives is-live)) in
-    λ k. record { ok = s .ok && is-ok k; freed = s .freed || old k; free = cond (first k) i (s .free); held = s .held + is-held k; kept = s .kept + is-kept k }
+or-false : (x : Bool) → (x || false) ≡ x
+or-false true = refl
+or-false false = refl
+
+or-true : (x : Bool) → (x || true) ≡ true
+or-true true = refl
+or-true false = refl
+
+-- what one turn makes of what was seen, by what the code tests: the entry is live, expired or free
+module _ (c : Config) (clock time : ℕ) (s : Seen) (i : ℕ) (e : Entry) (ok : Bool) (n : ℕ) (is-ok : ok ≡ entryOk c clock e) (is-held : n ≡ heldBy e) where
+  abbrev lives : Bool
+  lives = live (c .lifetime) time e
+
+  pub seen-live : lives ≡ true
+      → _≡_ {A = Seen} (record { ok = s .ok && ok; freed = s .freed; free = s .free; held = s .held + n; gone = s .gone }) (seenNext c clock time s i e)
+  seen-live y =
+      let freed : s .freed ≡ (s .freed || not (unexpired (c .lifetime) time e)) = rw (live-unexpired (c .lifetime) time e y, or-false (s .freed)) in
+      let free : s .free ≡ cond (leb 16 (s .free) && not lives) i (s .free) = rw (y, and-false) in
+      let gone : s .gone ≡ s .gone + (heldBy e - heldBy (swept (c .lifetime) time e)) = rw (swept-live (c .lifetime) time e y) (omega arith) in
+      λ k. record { ok = s .ok && is-ok k; freed = freed k; free = free k; held = s .held + is-held k; gone = gone k }
+
+  module _ (r : ℕ) (dead : lives ≡ false) (is-free : r ≡ cond (leb 16 (s .free)) i (s .free)) where
+    first : r ≡ cond (leb 16 (s .free) && not lives) i (s .free)
+    first = is-free ∙ rw (dead, and-true (leb 16 (s .free)))
+
+    pub seen-expired : e .used ≡ true
+        → _≡_ {A = Seen} (record { ok = s .ok && ok; freed = true; free = r; held = s .held + n; gone = s .gone + n }) (seenNext c clock time s i e)
+    seen-expired u =
+        let freed : true ≡ (s .freed || not (unexpired (c .lifetime) time e)) = rw (expired (c .lifetime) time e u dead, or-true (s .freed)) in
+        let gone : s .gone + n ≡ s .gone + (heldBy e - heldBy (swept (c .lifetime) time e)) = rw (is-held, swept-dead (c .lifetime) time e dead, free-holds) (omega arith) in
+        λ k. record { ok = s .ok && is-ok k; freed = freed k; free = first k; held = s .held + is-held k; gone = gone k }
+
+    pub seen-free : e .used ≡ false
+        → _≡_ {A = Seen} (record { ok = s .ok && ok; freed = s .freed; free = r; held = s .held + n; gone = s .gone }) (seenNext c clock time s i e)
+    seen-free u =
+        let freed : s .freed ≡ (s .freed || not (unexpired (c .lifetime) time e)) = rw (free-unexpired (c .lifetime) time e u, or-false (s .freed)) in
+        let gone : s .gone ≡ s .gone + (heldBy e - heldBy (swept (c .lifetime) time e)) = rw (held-unused e u) (omega arith) in
+        λ k. record { ok = s .ok && is-ok k; freed = freed k; free = first k; held = s .held + is-held k; gone = gone k }
 
 -- ---- the walk
 
@@ -77,9 +110,9 @@ module _ (c : Config) (clock time : ℕ) (l : List Entry) (named : Bool) where
     pub most : s .free ≤ 16
     pub long : all sized (drop i l) ≡ all sized l
     pub held : s .held + heldIn (drop i l) ≡ heldIn l
-    pub kept : s .kept + heldIn (map left (drop i l)) ≡ heldIn (map left l)
+    pub kept : s .held + heldIn (map left (drop i l)) ≡ s .gone + heldIn (map left l)
     pub held-most : s .held ≤ i * 17179869184
-    pub kept-most : s .kept ≤ i * 17179869184
+    pub gone-most : s .gone ≤ i * 17179869184
 
   -- what is seen of them all
   pub record Ended (s : Seen) : Type 0 where
@@ -88,13 +121,21 @@ module _ (c : Config) (clock time : ℕ) (l : List Entry) (named : Bool) where
     pub free : s .free ≡ find gone l
     pub long : all sized l ≡ true
     pub held : s .held ≡ heldIn l
-    pub kept : s .kept ≡ heldIn (map left l)
-    pub few : s .kept < 2 ^ 60
+    pub kept : s .held ≡ s .gone + heldIn (map left l)
+    pub few : s .held < 2 ^ 60
 
-  pub walk-starts : Walked (record { ok = named; freed = false; free = 16; held = 0; kept = 0 }) 0
+  pub walk-starts : Walked (record { ok = named; freed = false; free = 16; held = 0; gone = 0 }) 0
   walk-starts =
       record {
-        ok = refl; freed = refl; free = omega arith; most = omega arith; long = refl; held = omega arith; kept = omega arith; held-most = omega arith; kept-most = omega arith;
+        ok = refl;
+        freed = refl;
+        free = omega arith;
+        most = omega arith;
+        long = refl;
+        held = omega arith;
+        kept = omega arith;
+        held-most = omega arith;
+        gone-most = omega arith;
       }
 
   module _ (s : Seen) (i : ℕ) (was : Walked s i) where
@@ -111,9 +152,9 @@ module _ (c : Config) (clock time : ℕ) (l : List Entry) (named : Bool) where
       lower true = omega arith
       lower false = was .most
 
-      pub walk-goes : (n : Seen) → n ≡ seenNext c clock time s i e → sized e ≡ true → n .held < s .held + 17179869184 → n .kept < s .kept + 17179869184 → Walked n (i + 1)
+      pub walk-goes : (n : Seen) → n ≡ seenNext c clock time s i e → sized e ≡ true → heldBy e < 17179869184 → Walked n (i + 1)
       unfolding heldIn
-      walk-goes n is z held-less kept-less =
+      walk-goes n is z few =
           rw is (record {
             ok = and-assoc (s .ok) (good e) (all good (drop (i + 1) l)) ∙ rw (drop-step l i nil h) at (was .ok);
             freed = freed-go fresh l i (s .freed) (not (all fresh l)) (not (fresh e)) h (sym (not-not (fresh e))) (was .freed);
@@ -121,16 +162,14 @@ module _ (c : Config) (clock time : ℕ) (l : List Entry) (named : Bool) where
             most = lower (leb 16 (s .free) && gone e);
             long = all-go sized l i nil h z ∙ was .long;
             held = add-assoc (s .held) (heldBy e) (heldIn (drop (i + 1) l)) ∙ rw (drop-step l i nil h) at (was .held);
-            kept = add-assoc (s .kept) (heldBy (left e)) (heldIn (map left (drop (i + 1) l))) ∙ rw (drop-step l i nil h) at (was .kept);
-            held-most = omega (arith, was .held-most, rw is at held-less);
-            kept-most = omega (arith, was .kept-most, rw is at kept-less);
+            kept =
+                let was-kept : s .held + (heldBy (left e) + heldIn (map left (drop (i + 1) l))) ≡ s .gone + heldIn (map left l) = rw (drop-step l i nil h) at (was .kept) in
+                omega (arith, was-kept, swept-holds (c .lifetime) time e);
+            held-most = omega (arith, was .held-most, few);
+            gone-most = omega (arith, was .gone-most, few);
           })
 
     module _ (h : length l ≤ i) (low : i ≤ 16) (sixteen : length l ≡ 16) where
-      and-true : (x : Bool) → (x && true) ≡ x
-      and-true true = refl
-      and-true false = refl
-
       at-end : leb 16 (s .free) ≡ true → i + find gone (drop i l) ≡ find gone l → s .free ≡ find gone l
       at-end y f =
           let z : find gone (drop i l) ≡ 0 = rw (drop-of-length-le l h) in
@@ -145,8 +184,8 @@ module _ (c : Config) (clock time : ℕ) (l : List Entry) (named : Bool) where
             free = by-cases (leb 16 (s .free)) (λ y. at-end y (rw y at (was .free))) (λ n. rw n at (was .free));
             long = sym (was .long) ∙ all-end sized l i h;
             held = sym (add-zero (s .held)) ∙ rw (drop-of-length-le l h) at (was .held);
-            kept = sym (add-zero (s .kept)) ∙ rw (drop-of-length-le l h) at (was .kept);
-            few = omega (arith, was .kept-most);
+            kept = sym (add-zero (s .held)) ∙ rw (drop-of-length-le l h) at (was .kept);
+            few = omega (arith, was .held-most);
           }
 
 -- ---- the place
@@ -209,19 +248,22 @@ module _ (c : Config) (t : Table) (k : Name) (time : ℕ) where
 
 -- ---- the sight
 
-pub sight-is : (c : Config) (time : ℕ) (t : Table) (p q : Place) (r : ℕ) (freed : Bool) (kept own : ℕ) → p ≡ q → r ≡ indexOf p → r < 16 → length (t .entries) ≡ 16
-    → freed ≡ not (all (unexpired (c .lifetime) time) (t .entries)) → kept ≡ heldIn (map (swept (c .lifetime) time) (t .entries))
+pub sight-is : (c : Config) (time : ℕ) (t : Table) (p q : Place) (r : ℕ) (freed : Bool) (kept gone own : ℕ) → p ≡ q → r ≡ indexOf p → r < 16 → length (t .entries) ≡ 16
+    → freed ≡ not (all (unexpired (c .lifetime) time) (t .entries)) → kept ≡ gone + heldIn (map (swept (c .lifetime) time) (t .entries))
     → own ≡ heldBy (swept (c .lifetime) time (getD (t .entries) r nil))
-    → _≡_ {A = Sight} (record { clock = t .clock; held = t .held; place = p; at = r; entry = getD (t .entries) r nil; freed = freed; others = kept - own }) (sightAt c time t q)
+    → _≡_ {A = Sight} (record { clock = t .clock; held = t .held; place = p; at = r; entry = getD (t .entries) r nil; freed = freed; others = kept - gone - own }) (sightAt c time t q)
 unfolding sightAt sweep
-sight-is c time t p q r freed kept own is-place is-index below sixteen is-freed is-kept is-own =
+sight-is c time t p q r freed kept gone own is-place is-index below sixteen is-freed is-kept is-own =
     let index : r ≡ indexOf q = is-index ∙ ap (λ (z : Place). indexOf z) is-place in
     let entry : getD (t .entries) r nil ≡ at (t .entries) (indexOf q) = getD-any (t .entries) r nil unheld (omega arith) ∙ ap (at (t .entries)) index in
     let beside = is-own ∙ ap (λ (e : Entry). heldBy (swept (c .lifetime) time e)) entry in
-    λ k. record { clock = t .clock; held = t .held; place = is-place k; at = index k; entry = entry k; freed = is-freed k; others = is-kept k - beside k }
+    let left : kept - gone ≡ heldIn (map (swept (c .lifetime) time) (t .entries)) = omega (arith, is-kept) in
+    λ k. record { clock = t .clock; held = t .held; place = is-place k; at = index k; entry = entry k; freed = is-freed k; others = left k - beside k }
 
 -- what the entry at an index holds is among what is kept
-pub beside-least : (l : List Entry) (r : ℕ) (lifetime time kept : ℕ) → r < length l → kept ≡ heldIn (map (swept lifetime time) l) → heldBy (swept lifetime time (getD l r nil)) ≤ kept
+pub beside-least : (l : List Entry) (r : ℕ) (lifetime time kept gone : ℕ) → r < length l → kept ≡ gone + heldIn (map (swept lifetime time) l)
+    → heldBy (swept lifetime time (getD l r nil)) ≤ kept - gone
 unfolding sweep
-beside-least l r lifetime time kept below is =
-    rw (is, getD-any l r nil unheld below, ← at-sweep lifetime time l r) (held-at (sweep lifetime time l) r (rw (length-sweep lifetime time l) below))
+beside-least l r lifetime time kept gone below is =
+    let left : kept - gone ≡ heldIn (map (swept lifetime time) l) = omega (arith, is) in
+    rw (left, getD-any l r nil unheld below, ← at-sweep lifetime time l r) (held-at (sweep lifetime time l) r (rw (length-sweep lifetime time l) below))

@@ -65,7 +65,7 @@ seenNext c clock time s i e =
       freed = s .freed || not (unexpired (c .lifetime) time e);
       free = cond (leb 16 (s .free) && notLive (c .lifetime) time e) i (s .free);
       held = s .held + heldBy e;
-      kept = s .kept + heldBy (swept (c .lifetime) time e);
+      gone = s .gone + (heldBy e - heldBy (swept (c .lifetime) time e));
     }
 
 -- The key's place by the tags: `free` is the first entry that is not live, `first` the first with the key's own tag, and `held` says that this entry holds the key.

@@ -6,9 +6,9 @@ use keys::Key;
 use keys::NamedKey;
 ghost use mathlib.Core.Path.{_≡_};
 ghost use mathlib.Core.Bool.{true, cond};
-ghost use Prim.Native.Nat.{_+_, _^_, _<_};
+ghost use Prim.Native.Nat.{_^_, _<_};
 ghost use lib.ListN.{length};
-ghost use lib.Dec.{eqb};
+ghost use lib.Dec.{leb, eqb};
 ghost use Rattle.keys.specs.Lists.{find};
 ghost use Rattle.keys.specs.Keys.{Name, keyOf, namedOf};
 ghost use Rattle.entries.specs.Entries.{swept, sweep};
@@ -48,13 +48,13 @@ pub struct Sight {
 }
 
 // What a walk has seen so far: whether all is within the limits, whether an entry is expired, the first entry that is not live, or 16, and what is held, by all entries
-// and by those that are live.
+// and by those that are expired.
 pub struct Seen {
     pub ok: bool,
     pub freed: bool,
     pub free: usize,
     pub held: u64,
-    pub kept: u64,
+    pub gone: u64,
 }
 
 fn narrow(x: usize) -> u32
@@ -106,31 +106,45 @@ fn kept_by(e: Entry, lifetime: u64, time: u64) -> u64
     0
 }
 
-// What is seen once entry i is looked at.
+// The first entry that is not live, where i is the next of them.
+fn first_free(free: usize, i: usize) -> usize
+    ensures { λ r. ⌜ r ≡ cond (leb 16 free) i free ⌝ }
+{
+    if 16 <= free { i } else { free }
+}
+
+// What is seen once entry i is looked at: it is live, expired or free.
 fn see(seen: Seen, i: usize, e: Entry, config: Config, clock: u64, time: u64) -> Seen
-    requires { ⌜ (seen .held < 2 ^ 60) × (seen .kept < 2 ^ 60) ⌝ }
-    ensures { λ r. ⌜ (r ≡ seenNext config clock time seen i e) × (sized e ≡ true) × (r .held < seen .held + 17179869184) × (r .kept < seen .kept + 17179869184) ⌝ }
+    requires { ⌜ (seen .held < 2 ^ 60) × (seen .gone < 2 ^ 60) ⌝ }
+    ensures { λ r. ⌜ (r ≡ seenNext config clock time seen i e) × (sized e ≡ true) × (heldBy e < 17179869184) ⌝ }
 {
     let ok = seen.ok & entries::entry_ok(config, clock, e);
-    let freed = seen.freed | expiry::is_expired(e.used, e.touched, config.lifetime, time);
-    let live = expiry::is_live(e.used, e.touched, config.lifetime, time);
-    let held = seen.held + entries::held_by(e);
-    let kept = seen.kept + kept_by(e, config.lifetime, time);
-    if (16 <= seen.free) & !live {
+    let bytes = entries::held_by(e);
+    let held = seen.held + bytes;
+    if expiry::is_live(e.used, e.touched, config.lifetime, time) {
         return Seen {
             ok,
-            freed,
-            free: i,
+            freed: seen.freed,
+            free: seen.free,
             held,
-            kept,
+            gone: seen.gone,
+        };
+    }
+    if e.used {
+        return Seen {
+            ok,
+            freed: true,
+            free: first_free(seen.free, i),
+            held,
+            gone: seen.gone + bytes,
         };
     }
     Seen {
         ok,
-        freed,
-        free: seen.free,
+        freed: seen.freed,
+        free: first_free(seen.free, i),
         held,
-        kept,
+        gone: seen.gone,
     }
 }
 
@@ -188,7 +202,7 @@ pub fn look(config: Config, table: Table, time: u64, named: NamedKey) -> Sight
         freed: false,
         free: 16,
         held: 0,
-        kept: 0,
+        gone: 0,
     };
     let mut i = 0;
     while i < n {
@@ -221,6 +235,6 @@ pub fn look(config: Config, table: Table, time: u64, named: NamedKey) -> Sight
         at,
         entry,
         freed: seen.freed,
-        others: seen.kept - kept_by(entry, config.lifetime, time),
+        others: seen.held - seen.gone - kept_by(entry, config.lifetime, time),
     }
 }

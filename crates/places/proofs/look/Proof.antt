@@ -42,7 +42,7 @@ walk-turns c =
     let args = walk .before .before .before .args in
     let walked =
     walk-goes (args .config) (args .table .clock) (args .time) (args .table .entries) _ (walk .loop .seen) (walk .loop .i) (walk .loop .inv .1 .1) (omega arith)
-    (walk .loop .inv .0) _ (c .see .ensures .0) (c .see .ensures .1) (c .see .ensures .2) (c .see .ensures .3) in
+    (walk .loop .inv .0) _ (c .see .ensures .0) (c .see .ensures .1) (c .see .ensures .2) in
     (walk .loop .inv .0, (omega arith, walked))
 
 tags-turn : tie.Need-loop2-again Inv-loop μ-loop Inv-loop2 μ-loop2
@@ -95,18 +95,22 @@ module _ (c : tie.After-quick-place Inv-loop μ-loop Inv-loop2 μ-loop2) where
       (found .result) _ sixteen ok (seen .free) (named-read k (args .named) is) (named-tag k (args .named) is) tags (found .ensures) (own .index .result)
       (own .index .ensures .0) (asked .holds-live .ensures) (c .before .apart .result) _ (c .before .apart .ensures) (c .quick-place .ensures)
 
--- what the key's entry holds is part of what is kept
-least : tie.Need-sub-t52 Inv-loop μ-loop Inv-loop2 μ-loop2
-least c =
-    let kept = c .before in
-    let indexed = kept .before .before in
+-- what is expired is among what is held
+expired-least : tie.Need-sub-t51 Inv-loop μ-loop Inv-loop2 μ-loop2
+expired-least c = omega (arith, seen (c .before .before .before .before) .kept)
+
+-- and what the key's entry holds is among what is left
+own-least : tie.Need-sub-t53 Inv-loop μ-loop Inv-loop2 μ-loop2
+own-least c =
+    let indexed = c .before .before .before in
     let quick = indexed .before .before in
-    rw (kept .kept-by .ensures .0) (beside-least (walk quick .before .before .before .args .table .entries) (indexed .index-of .result) _ _ _ (omega (arith, sixteen quick, indexed .index-of .ensures .1)) (seen quick .kept))
+    let entries = walk quick .before .before .before .args .table .entries in
+    rw (c .kept-by .ensures .0)
+    (beside-least entries (indexed .index-of .result) _ _ _ _ (omega (arith, sixteen quick, indexed .index-of .ensures .1)) (seen quick .kept))
 
 returns : tie.Need-returns Inv-loop μ-loop Inv-loop2 μ-loop2
 returns c =
-    let kept = c .before in
-    let indexed = kept .before .before in
+    let indexed = c .before .before .before in
     let quick = indexed .before .before in
     let args = walk quick .before .before .before .args in
     λ k is.
@@ -115,10 +119,9 @@ returns c =
     ⊎-elim
     (λ sure. sure .3 ∙ ap (λ (q : Quick). settled q by-bytes) (sym (sure .1 .given .1)) ∙ there quick k is)
     (λ equal. equal .3 ∙ equal .2 .ensures ∙ ap (λ (q : Quick). settled q by-bytes) (sym (equal .1 .given .1)) ∙ there quick k is)
-    (indexed .before .match .came) in
-    (
-      sight-is (args .config) (args .time) (args .table) _ _ _ _ _ _ place (indexed .index-of .ensures .0) (indexed .index-of .ensures .1) (sixteen quick) (seen quick .freed)
-      (seen quick .kept) (kept .kept-by .ensures .0),
+    (indexed .before .match .came) in (
+      sight-is (args .config) (args .time) (args .table) _ _ _ _ _ _ _ place (indexed .index-of .ensures .0) (indexed .index-of .ensures .1) (sixteen quick) (seen quick .freed)
+          (seen quick .kept) (c .kept-by .ensures .0),
       sixteen quick,
       seen quick .long,
       omega (arith, seen quick .few),
@@ -133,4 +136,4 @@ look-spec =
     (λ c κs. search needs) (λ c κs. search needs) (λ c. search needs) (λ c. search needs) (λ c. search needs) (λ c. search needs) tags-turn
     (λ c κs. search needs) (λ c κs. search needs) (λ c. search needs) (λ c. search needs) (λ c κs. search needs) (λ c κs. search needs)
     (λ c κs. search needs) (λ c. search needs) (λ c. search needs) (λ c κs. search needs) (λ c κs. search needs) (λ c. search needs)
-    (λ c. search needs) (λ c κs. search needs) least returns)
+    (λ c. search needs) expired-least (λ c κs. search needs) own-least returns)

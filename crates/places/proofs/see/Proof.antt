@@ -1,51 +1,53 @@
-use mathlib.Core.Path.{_≡_}
-use Prim.Native.Nat.{_+_}
-use native.Mathlib.Omega.{arith}
-use mathlib.Core.Bool.{Bool, true, not, cond, _&&_, _||_}
-use lib.Dec.{leb}
-use Rattle.entries.specs.Quick.{sized}
-use Rattle.places.specs.declared.Seen.{Seen}
-use Rattle.places.specs.Sight.{seenNext}
-use Rattle.places.proofs.Looks.{seen-by}
+use mathlib.Core.Path.{_≡_, sym, _∙_}
+use mathlib.Core.Bool.{Bool}
+use Rattle.entries.specs.Entries.{live}
+use Rattle.entries.proofs.Cases.{live-as}
+use Rattle.places.proofs.Looks.{seen-live, seen-expired, seen-free}
 use borrow.Author.Needs.{needs}
 use Rattle.places.proofs.see.Statement.{statement}
 use Rattle.places.proofs.see.Tie as tie
 
--- what is seen, by whether the entry is the first that is not live
-module _ (c : tie.After-kept-by) where
-  abbrev count : tie.After-held-by
-  count = c .before .before
+lives : (c : tie.After-is-live) (b : Bool) → c .is-live .result ≡ b
+    → let args = c .before .before .before .before .before .args in live (args .config .lifetime) (args .time) (args .e) ≡ b
+lives c b told = live-as _ _ _ b (sym told ∙ c .is-live .ensures)
 
-  abbrev asked : tie.After-is-live
-  asked = count .before
+is-live : tie.Need-returns
+is-live c =
+    let asked = c .before in
+    let counted = asked .before .before in
+    let checked = counted .before .before in (
+      seen-live _ _ _ (checked .before .args .seen) _ _ _ _ (checked .entry-ok .ensures .0) (counted .held-by .ensures .0) (lives asked _ (c .if1 .taken)),
+      checked .entry-ok .ensures .1,
+      rw (← (counted .held-by .ensures .0)) (counted .held-by .ensures .1),
+    )
 
-  abbrev expiry : tie.After-is-expired
-  expiry = asked .before .before
+is-expired : tie.Need-returns-2
+is-expired c =
+    let found = c .before in
+    let asked = found .before .before .before in
+    let counted = asked .before .before in
+    let checked = counted .before .before in (
+      seen-expired _ _ _ (checked .before .args .seen) _ _ _ _ (checked .entry-ok .ensures .0) (counted .held-by .ensures .0) _ (lives asked _ (found .before .before .if1 .left))
+          (found .first-free .ensures) (found .before .if2 .taken),
+      checked .entry-ok .ensures .1,
+      rw (← (counted .held-by .ensures .0)) (counted .held-by .ensures .1),
+    )
 
-  abbrev checked : tie.After-entry-ok
-  checked = expiry .before .before
-
-  next : let args = checked .before .args in (b : Bool) → (leb 16 (args .seen .free) && not (asked .is-live .result)) ≡ b
-      → _≡_ {A = Seen}
-      (record {
-        ok = args .seen .ok && checked .entry-ok .result;
-        freed = args .seen .freed || expiry .is-expired .result;
-        free = cond b (args .i) (args .seen .free);
-        held = args .seen .held + count .held-by .result;
-        kept = args .seen .kept + c .kept-by .result;
-      })
-      (seenNext (args .config) (args .clock) (args .time) (args .seen) (args .i) (args .e))
-  next b first =
-      seen-by _ _ _ (checked .before .args .seen) _ _ _ _ _ _ _ _ (checked .entry-ok .ensures .0) (expiry .is-expired .ensures) (asked .is-live .ensures) first
-      (count .held-by .ensures .0) (c .kept-by .ensures .0)
-
-  long : sized (checked .before .args .e) ≡ true
-  long = checked .entry-ok .ensures .1
+is-free : tie.Need-returns-3
+is-free c =
+    let left = c .before .before in
+    let asked = left .before in
+    let counted = asked .before .before in
+    let checked = counted .before .before in (
+      seen-free _ _ _ (checked .before .args .seen) _ _ _ _ (checked .entry-ok .ensures .0) (counted .held-by .ensures .0) _ (lives asked _ (left .if1 .left))
+          (c .first-free2 .ensures) (c .before .if2 .left),
+      checked .entry-ok .ensures .1,
+      rw (← (counted .held-by .ensures .0)) (counted .held-by .ensures .1),
+    )
 
 pub see-spec : {M : Type 1} → statement M
 see-spec =
     tie.close
     (tie.spec
-    (λ c κs. search needs) (λ c κs. search needs) (λ c κs. search needs) (λ c κs. search needs) (λ c. search needs) (λ c κs. search needs) (λ c. search needs)
-    (λ c. let kept = c .before .before .before in (next kept _ (c .if1 .taken), long kept, omega (arith, kept .before .before .held-by .ensures .1), omega (arith, kept .kept-by .ensures .1)))
-    (λ c. let kept = c .before .before .before in (next kept _ (c .if1 .left), long kept, omega (arith, kept .before .before .held-by .ensures .1), omega (arith, kept .kept-by .ensures .1))))
+    (λ c κs. search needs) (λ c κs. search needs) (λ c. search needs) (λ c κs. search needs) is-live (λ c κs. search needs) (λ c. search needs) is-expired
+    (λ c κs. search needs) is-free)
