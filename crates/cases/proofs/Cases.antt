@@ -7,6 +7,7 @@ use lib.ListN.{take, drop}
 use Rattle.cases.specs.Cases.{Row, AllSay, cases}
 use Rattle.cases.specs.StrictCases.{strictCases}
 use Rattle.cases.specs.EdgeCases.{edgeCases}
+use Rattle.cases.specs.HeldCases.{heldCases}
 use Rattle.cases.proofs.Computes.{steps, calls}
 
 -- the first n rows hold, and the others
@@ -29,3 +30,7 @@ strict-cases = (refl, (refl, (refl, (refl, (refl, (refl, (refl, (refl, (refl, (r
 pub edge-cases : AllSay edgeCases
 unfolding calls
 edge-cases = (refl, (refl, (refl, (refl, (refl, (refl, (refl, (refl, (refl, (refl, (refl, (refl, (refl, (refl, (refl, (refl, (refl, (refl, tt))))))))))))))))))
+
+pub held-cases : AllSay heldCases
+unfolding calls
+held-cases = (refl, tt)

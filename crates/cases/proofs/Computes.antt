@@ -12,6 +12,7 @@ use Rattle.request_step.specs.Step as step
 use Rattle.response_step.specs.Step as reply
 use Rattle.keys.specs.Keys as keys
 use Rattle.entries.specs.Entries as entries
+use Rattle.entries.specs.Held as held
 use Rattle.block_table.specs.Table as table
 use Rattle.key_place.specs.Place as place
 use Rattle.places.specs.Places as places
@@ -41,7 +42,7 @@ entry = tt
 
 -- the limits of a configuration, a table and a call
 unfoldable pub limits : Unit {0}
-unfolding entry keys.same keys.keyOk entries.holds entries.clash table.distinct table.tableOk judge.configOk judge.memoriesOk h.whatOk h.withinLimits
+unfolding entry keys.same keys.keyOk entries.holds entries.clash held.heldBy held.held table.distinct table.figureOk table.tableOk judge.configOk judge.memoriesOk h.whatOk h.withinLimits
 limits = tt
 
 unfoldable pub calls : Unit {0}

@@ -1,6 +1,6 @@
 -- A call on a lent entry is block_handler's call at its place: the same step, put back by the caller; and where the checks before it pass, it is the whole
 -- call. Assumes nothing.
-use Prim.Native.Nat.{ℕ, _*_, _≤_, _<_}
+use Prim.Native.Nat.{ℕ, _+_, _-_, _*_, _≤_, _<_}
 use mathlib.Core.Bool.{Bool, true, false}
 use mathlib.Core.Path.{_≡_, refl, _∙_}
 use mathlib.Core.List.{List}
@@ -14,6 +14,8 @@ use Rattle.block_state.proofs.Fits.{fits-state}
 use Rattle.config.specs.declared.Config.{Config}
 use Rattle.block_state.specs.Message.{What, request, response}
 use Rattle.entries.specs.declared.Entry.{Entry}
+use Rattle.entries.specs.Held.{heldBy, held}
+use Rattle.entries.proofs.Held.{held-set}
 use Rattle.block_table.specs.Table.{at, tableWith}
 use Rattle.block_table.proofs.TableFits.{table-fits}
 use Rattle.key_place.specs.Place.{place}
@@ -52,6 +54,12 @@ module _ (c : Config) (w : World) (time i : ℕ) where
   unfolding callAt
   same-call row e (request r) h = rw (with-room _ time e (up c w i) _ h)
   same-call row e (response r) h = rw (with-room _ time e (down c w i) _ h)
+
+  -- The row has no figure of its own. A caller that keeps a table puts this one beside it: what the row holds that the walk left, less what stood at the place, and what the entry holds
+  -- that comes back.
+  pub put-figure : (row : List Entry) (x : What) (g : Lent) → i < length row → putBack row x g .table .held ≡ (held row - heldBy (at row i)) + heldBy (g .entry)
+  put-figure row (request r) g below = held-set row i (g .entry) below
+  put-figure row (response r) g below = held-set row i (g .entry) below
 
 module _ (c : Config) (w : World) (q : Call) where
   abbrev row : List Entry

@@ -1,4 +1,4 @@
--- The line that shows the state: `N state CLOCK ENTRIES UPLOAD RESPONSE`.
+-- The line that shows the state: `N state CLOCK HELD ENTRIES UPLOAD RESPONSE`.
 use Prim.Native.Nat.{ℕ, _+_}
 use mathlib.Core.Bool.{Bool, cond}
 use mathlib.Core.List.{List, [], _∷_, _++_}
@@ -36,7 +36,8 @@ nextText some i e = cond (e .used) (cond some (59 ∷ entryText i e) (entryText 
 
 -- ---- the line
 
--- `N state CLOCK ENTRIES UPLOAD RESPONSE`
+-- `N state CLOCK HELD ENTRIES UPLOAD RESPONSE`
 unfoldable pub stateText : ℕ → Table → Bytes → Bytes → Bytes
 stateText n t upload response =
-    decimal n ++ ((32 ∷ 115 ∷ 116 ∷ 97 ∷ 116 ∷ 101 ∷ 32 ∷ []) ++ (decimal (t .clock) ++ (32 ∷ entriesText (t .entries) ++ (32 ∷ memoriesText upload response))))
+    decimal n ++ ((32 ∷ 115 ∷ 116 ∷ 97 ∷ 116 ∷ 101 ∷ 32 ∷ []) ++ (decimal (t .clock) ++ (32 ∷ decimal (t .held) ++ (32 ∷ entriesText (t .entries)
+    ++ (32 ∷ memoriesText upload response)))))

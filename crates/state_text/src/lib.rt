@@ -1,4 +1,4 @@
-// The state on one line: clock, entries in use, and the numbers of the memories.
+// The state on one line: clock, bytes held, entries in use, and the numbers of the memories.
 use block_table::Table;
 use entries::Entry;
 
@@ -44,7 +44,7 @@ fn put_entries(out: &mut [u8], at: usize, entries: [Entry; 16]) -> usize
     k
 }
 
-// `N state CLOCK ENTRIES UPLOAD RESPONSE`
+// `N state CLOCK HELD ENTRIES UPLOAD RESPONSE`
 pub fn put_state<'a>(
     out: &mut [u8],
     at: usize,
@@ -61,6 +61,8 @@ pub fn put_state<'a>(
     let k = script_text::put_decimal(out, at, n);
     let k = pieces::put(out, k, b" state ");
     let k = script_text::put_decimal(out, k, table.clock);
+    let k = pieces::put_byte(out, k, b' ');
+    let k = script_text::put_decimal(out, k, block_table::bytes_held(table));
     let k = pieces::put_byte(out, k, b' ');
     let k = put_entries(out, k, entries);
     let k = pieces::put_byte(out, k, b' ');
