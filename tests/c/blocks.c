@@ -384,15 +384,16 @@ static void bytes_held(bool strict)
     /* Handed on, and what stays is the other lane's. */
     CHECK(answered(push(1, "lane 1", 2, false, NULL), BLOCK_HANDLER_HANDED, 0) && holds(64));
 
-    /* First, and First over the older response. What is sent whole or as it is keeps that one. */
+    /* First, and First over the older response. What is sent as it is or refused keeps that one. */
     CHECK(answered(ask((struct request){2, "screen", 20, NULL, NULL, NULL, 0}), BLOCK_HANDLER_PASS, 0) && holds(64));
     CHECK(answered(answer(2, "screen", false, "head", page, PAGE), BLOCK_HANDLER_FIRST, 0) && holds(64 + 4 + PAGE));
     CHECK(answered(answer(2, "screen", false, "a head", page, 200), BLOCK_HANDLER_FIRST, 0) && holds(64 + 6 + 200));
     CHECK(answered(answer(2, "screen", true, "head", page, PAGE), BLOCK_HANDLER_PLAIN, 0) && holds(64 + 6 + 200));
     CHECK(refused(answer(2, "screen", false, "head", page, V), 7, 160) && holds(64 + 6 + 200));
 
-    /* The last chunk drops the cache, and no other does. */
+    /* The last chunk drops the cache. One before it does not, nor does a response that is sent whole. */
     CHECK(answered(ask((struct request){3, "screen", 20, NULL, &chunk0, NULL, 0}), BLOCK_HANDLER_SERVED, 0) && holds(64 + 6 + 200));
+    CHECK(answered(answer(3, "screen", false, "head", page, 100), BLOCK_HANDLER_WHOLE, 0) && holds(64 + 6 + 200));
     CHECK(answered(ask((struct request){3, "screen", 20, NULL, &chunk1, NULL, 0}), BLOCK_HANDLER_SERVED, 0) && holds(64));
 
     /* Refusal 8 in a request whose body was complete: the body is gone, the cache stays. */
@@ -400,6 +401,9 @@ static void bytes_held(bool strict)
     CHECK(answered(push(4, "screen", 0, true, NULL), BLOCK_HANDLER_CONTINUE, 95) && holds(128 + 4 + PAGE));
     CHECK(refused(ask((struct request){4, "screen", 20, NULL, &far, NULL, 0}), 8, 128) && holds(128 + 4 + PAGE));
     CHECK(refused(push(4, "screen", 1, false, &far), 8, 128) && holds(64 + 4 + PAGE));
+    /* So is one whose request is served a chunk. */
+    CHECK(answered(push(5, "screen", 0, true, NULL), BLOCK_HANDLER_CONTINUE, 95) && holds(128 + 4 + PAGE));
+    CHECK(answered(push(5, "screen", 1, false, &chunk1), BLOCK_HANDLER_SERVED, 0) && holds(64 + 4 + PAGE));
 }
 
 /* Expired entries count until a call frees them. */
