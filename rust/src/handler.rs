@@ -202,12 +202,6 @@ impl<Memory: AsRef<[u8]> + AsMut<[u8]>> BlockHandler<Memory> {
         ffi::bytes_held(&self.table)
     }
 
-    /// The entries as C has them, for bench/, which counts the bytes over them. No part of the interface.
-    #[doc(hidden)]
-    pub fn entries(&self) -> &[ffi::Entry; ENTRIES] {
-        &self.table.entries
-    }
-
     /// Takes a request before the application sees it.
     pub fn intercept_request<'a>(&'a mut self, request: &Request<'a>) -> Result<RequestAnswer<'a>, Refusal> {
         let reply = ffi::request(&mut self.table, self.config, self.upload.as_mut(), self.response.as_ref(), request);
