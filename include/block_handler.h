@@ -93,9 +93,11 @@ struct block_handler_entry {
     struct block_handler_state state;
 };
 
-/* The table: the time of the last call that changed it, and the entries. Start from block_handler_fresh(). */
+/* The table: the time of the last call that changed it, the bytes that it holds, and the entries. Start from block_handler_fresh(). */
 struct block_handler_table {
     uint64_t clock;
+    uint64_t held; /* Over the entries in use: the assembled length, and the lengths of head and payload of a cached response. The calls keep it equal to
+                      that sum, and a table with another figure is off the limits (refusal 1). Whoever changes an entry by hand sets it, too. */
     struct block_handler_entry entries[BLOCK_HANDLER_ENTRIES];
 };
 
@@ -179,8 +181,9 @@ BLOCK_HANDLER_ASSERT(sizeof(struct block_handler_entry) == 104);
 BLOCK_HANDLER_ASSERT(offsetof(struct block_handler_entry, used) == 65);
 BLOCK_HANDLER_ASSERT(offsetof(struct block_handler_entry, touched) == 72);
 BLOCK_HANDLER_ASSERT(offsetof(struct block_handler_entry, state) == 80);
-BLOCK_HANDLER_ASSERT(sizeof(struct block_handler_table) == 1672);
-BLOCK_HANDLER_ASSERT(offsetof(struct block_handler_table, entries) == 8);
+BLOCK_HANDLER_ASSERT(sizeof(struct block_handler_table) == 1680);
+BLOCK_HANDLER_ASSERT(offsetof(struct block_handler_table, held) == 8);
+BLOCK_HANDLER_ASSERT(offsetof(struct block_handler_table, entries) == 16);
 BLOCK_HANDLER_ASSERT(sizeof(struct block_handler_reply) == 56);
 BLOCK_HANDLER_ASSERT(offsetof(struct block_handler_reply, block1) == 4);
 BLOCK_HANDLER_ASSERT(offsetof(struct block_handler_reply, block2) == 12);
@@ -194,8 +197,13 @@ BLOCK_HANDLER_ASSERT(offsetof(struct block_handler_option, bytes) == 8);
 /* The Rust's defaults (T 1152, two minutes), for pieces of these sizes. */
 struct block_handler_config block_handler_default_config(bool strict, size_t upload, size_t response);
 
-/* An empty table with clock 0. */
+/* An empty table with clock 0. It holds no bytes. */
 struct block_handler_table block_handler_fresh(void);
+
+/* The bytes that a table holds: over its entries in use, the assembled length, and the lengths of head and payload of a cached response. At most 16 * (U + V). An
+ * expired entry counts until a call frees it. The figure is read and not counted, in the same short time for every table: a screen may ask every second.
+ * Nothing is refused here: of a table that is off the limits it is the figure that stands there. As with any two calls, not while another call has the table. */
+uint64_t block_handler_bytes_held(const struct block_handler_table *table);
 
 /* The block value of an option's bytes. More than two bytes cannot be read, which counts as none. */
 struct block_handler_block block_handler_read(const uint8_t *option, size_t option_len);

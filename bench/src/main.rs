@@ -1,5 +1,6 @@
 //! Times the proved handler, as a Rust caller has it, and the unchanged Rust module on the same inputs, in one process.
 
+mod held;
 mod inputs;
 mod sides;
 mod standins;
@@ -30,6 +31,7 @@ fn main() {
     plain(KEYS);
     plain(1);
     middle();
+    held::print();
     steps::print();
     standins::print();
 }

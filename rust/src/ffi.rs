@@ -66,6 +66,8 @@ pub struct Entry {
 #[derive(Debug, Clone, Copy, PartialEq, Eq)]
 pub struct Table {
     pub clock: u64,
+    /// The bytes held, which the calls keep: over the entries in use, what is assembled, and head and payload of a cached response.
+    pub held: u64,
     pub entries: [Entry; 16],
 }
 
@@ -143,6 +145,7 @@ pub struct Written {
 
 extern "C" {
     fn block_handler_fresh() -> Table;
+    fn block_handler_bytes_held(table: *const Table) -> u64;
     fn block_handler_read(option: *const u8, option_len: usize) -> Block;
     fn block_handler_write(num: u32, more: bool, exponent: u8) -> OptionBytes;
     fn block_handler_request(
@@ -209,6 +212,13 @@ extern "C" {
 pub fn fresh() -> Table {
     // SAFETY: it takes nothing and returns a struct of numbers, declared here with the layout that the tests below check.
     unsafe { block_handler_fresh() }
+}
+
+/// The bytes that the table holds: its figure, whatever else stands there.
+pub fn bytes_held(table: &Table) -> u64 {
+    // SAFETY: the pointer is that of a table which is borrowed and only read. Every bool of it is a Rust bool, its numbers may be any, and
+    // the library keeps no pointer.
+    unsafe { block_handler_bytes_held(table) }
 }
 
 /// Reads an option; none if it has more than two bytes.
@@ -402,7 +412,8 @@ mod tests {
         assert_eq!((size_of::<BlockState>(), state), (24, [0, 8, 16]));
         let entry = [offset_of!(Entry, key), offset_of!(Entry, used), offset_of!(Entry, touched), offset_of!(Entry, state)];
         assert_eq!((size_of::<Entry>(), entry), (104, [0, 65, 72, 80]));
-        assert_eq!([size_of::<Table>(), offset_of!(Table, clock), offset_of!(Table, entries)], [1672, 0, 8]);
+        let table = [offset_of!(Table, clock), offset_of!(Table, held), offset_of!(Table, entries)];
+        assert_eq!((size_of::<Table>(), table), (1680, [0, 8, 16]));
         let reply = [offset_of!(Reply, kind), offset_of!(Reply, refusal), offset_of!(Reply, code), offset_of!(Reply, block1)];
         let more = [offset_of!(Reply, block2), offset_of!(Reply, part), offset_of!(Reply, head)];
         assert_eq!((size_of::<Reply>(), reply, more), (56, [0, 1, 2, 4], [12, 24, 40]));
@@ -425,7 +436,7 @@ mod tests {
     fn fresh_is_zeros() {
         let key = Key { bytes: [0; 64], len: 0 };
         let free = Entry { key, used: false, touched: 0, state: BlockState::default() };
-        assert_eq!(fresh(), Table { clock: 0, entries: [free; 16] });
+        assert_eq!(fresh(), Table { clock: 0, held: 0, entries: [free; 16] });
     }
 
     /// The library's codes are those that the answers and refusals give.

@@ -178,6 +178,30 @@ impl<Memory: AsRef<[u8]> + AsMut<[u8]>> BlockHandler<Memory> {
         Self { config: ffi::Config::from(config), table: ffi::fresh(), upload, response }
     }
 
+    /// The bytes held: over the keys that have an entry, what is assembled of an upload, and head and payload of a cached response. At
+    /// most sixteen times `max_upload` and `max_response` together.
+    ///
+    /// The calls keep this figure, and here it is read and not counted, in the same short time whatever is held: a screen may ask every
+    /// second. A key whose time has run out counts until a call frees its entry, which any call does that is not refused by
+    /// [`OffLimits`](Refusal::OffLimits), [`ClockBack`](Refusal::ClockBack) or [`TableFull`](Refusal::TableFull).
+    ///
+    /// ```
+    /// use block_handler::{BlockHandler, BlockHandlerConfig, Request};
+    ///
+    /// let mut handler = BlockHandler::new(BlockHandlerConfig::default());
+    /// assert_eq!(handler.bytes_held(), 0);
+    ///
+    /// let lane = Request { key: b"lane 7 PUT /prices", bare: 20, ..Request::default() };
+    /// handler.intercept_request(&Request { block1: Some(&[0x08]), payload: b"milk 1.19, bread", ..lane })?; // block 0 of 16 bytes
+    /// assert_eq!(handler.bytes_held(), 16);
+    /// handler.intercept_request(&Request { block1: Some(&[0x10]), payload: b" 2.49", ..lane })?; // the last block: all is handed on
+    /// assert_eq!(handler.bytes_held(), 0);
+    /// # Ok::<(), block_handler::Refusal>(())
+    /// ```
+    pub fn bytes_held(&self) -> u64 {
+        ffi::bytes_held(&self.table)
+    }
+
     /// Takes a request before the application sees it.
     pub fn intercept_request<'a>(&'a mut self, request: &Request<'a>) -> Result<RequestAnswer<'a>, Refusal> {
         let reply = ffi::request(&mut self.table, self.config, self.upload.as_mut(), self.response.as_ref(), request);

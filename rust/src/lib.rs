@@ -94,6 +94,11 @@
 //! # Ok::<(), Box<dyn std::error::Error>>(())
 //! ```
 //!
+//! # How much is held
+//!
+//! [`BlockHandler::bytes_held`] says how many bytes the uploads and the cached responses have, for a screen that asks every second: the
+//! calls keep the figure, so it is read and not counted.
+//!
 //! # Messages that come twice
 //!
 //! A client whose acknowledgement is lost sends the same message again, under the same message ID. RFC 7252 (section 4.5) has the stack

@@ -1,4 +1,4 @@
-/* The static library as a C program uses it: a list pushed in blocks, a page fetched in blocks, every refusal, wrong lengths. */
+/* The static library as a C program uses it: a list pushed in blocks, a page fetched in blocks, every refusal, wrong lengths, the bytes held. */
 #include "block_handler.h"
 
 #include <stdio.h>
@@ -53,6 +53,27 @@ static bool fences_stand(void)
     return true;
 }
 
+/* The bytes held, counted by a walk over the entries. */
+static uint64_t walked(void)
+{
+    uint64_t sum = 0;
+    for (int i = 0; i < BLOCK_HANDLER_ENTRIES; i++) {
+        const struct block_handler_entry *e = &h.table.entries[i];
+        if (e->used)
+            sum += e->state.assembled.len;
+        if (e->used && e->state.cached.held)
+            sum += (uint64_t)e->state.cached.head + e->state.cached.payload;
+    }
+    return sum;
+}
+
+/* What holds after every call on a table within its limits. */
+static void check_after(void)
+{
+    CHECK(fences_stand());
+    CHECK(block_handler_bytes_held(&h.table) == walked());
+}
+
 /* A request: the block options are absent where they are NULL. */
 struct request {
     uint64_t time;
@@ -72,7 +93,7 @@ static struct block_handler_reply ask(struct request q)
     struct block_handler_reply reply = block_handler_request(&h.table, h.config, h.upload, sizeof h.upload, h.response,
         sizeof h.response, q.time, (const uint8_t *)q.key, strlen(q.key), q.bare, q.block1 != NULL, block1->bytes, block1->len,
         q.block2 != NULL, block2->bytes, block2->len, q.payload ? q.payload : nothing, q.len);
-    CHECK(fences_stand());
+    check_after();
     return reply;
 }
 
@@ -80,7 +101,7 @@ static struct block_handler_reply answer(uint64_t time, const char *key, bool ow
 {
     struct block_handler_reply reply = block_handler_response(&h.table, h.config, h.upload, sizeof h.upload, h.response,
         sizeof h.response, time, (const uint8_t *)key, strlen(key), 1000, own, (const uint8_t *)head, strlen(head), payload, len);
-    CHECK(fences_stand());
+    check_after();
     return reply;
 }
 
@@ -231,7 +252,7 @@ static bool nothing_changed(const struct handler *before)
     for (int i = 0; i < BLOCK_HANDLER_ENTRIES; i++)
         if (!same_entry(&h.table.entries[i], &before->table.entries[i]))
             return false;
-    return h.table.clock == before->table.clock && memcmp(h.upload, before->upload, sizeof h.upload) == 0
+    return h.table.clock == before->table.clock && h.table.held == before->table.held && memcmp(h.upload, before->upload, sizeof h.upload) == 0
         && memcmp(h.response, before->response, sizeof h.response) == 0;
 }
 
@@ -333,6 +354,127 @@ static void off_limits(void)
     CHECK(fences_stand());
 }
 
+/* A block of 64 bytes of this lane's list. */
+static struct block_handler_reply push(uint64_t time, const char *lane, uint32_t num, bool more, const struct block_handler_option *block2)
+{
+    static const uint8_t bytes[SIZE];
+    struct block_handler_option block1 = block_handler_write(num, more, 2);
+    return ask((struct request){time, lane, 20, &block1, block2, bytes, SIZE});
+}
+
+static bool holds(uint64_t bytes)
+{
+    return block_handler_bytes_held(&h.table) == bytes;
+}
+
+/* What is held, step by step: lists that are taken and handed on, a page that is cached, cached anew and fetched. */
+static void bytes_held(bool strict)
+{
+    static uint8_t page[V];
+    struct block_handler_option chunk0 = block_handler_write(0, false, 3), chunk1 = block_handler_write(1, false, 3);
+    struct block_handler_option far = block_handler_write(9, false, 3);
+    start(strict);
+    CHECK(holds(0));
+    CHECK(answered(push(1, "lane 1", 0, true, NULL), BLOCK_HANDLER_CONTINUE, 95) && holds(64));
+    CHECK(answered(push(1, "lane 1", 1, true, NULL), BLOCK_HANDLER_CONTINUE, 95) && holds(128));
+    CHECK(answered(push(1, "lane 2", 0, true, NULL), BLOCK_HANDLER_CONTINUE, 95) && holds(192));
+    /* Block 0 again: strict mode starts afresh, plain mode writes it over itself. */
+    CHECK(answered(push(1, "lane 1", 0, true, NULL), BLOCK_HANDLER_CONTINUE, 95) && holds(strict ? 128 : 192));
+    CHECK(answered(push(1, "lane 1", 1, true, NULL), BLOCK_HANDLER_CONTINUE, 95) && holds(192));
+    /* Handed on, and what stays is the other lane's. */
+    CHECK(answered(push(1, "lane 1", 2, false, NULL), BLOCK_HANDLER_HANDED, 0) && holds(64));
+
+    /* First, and First over the older response. What is sent as it is or refused keeps that one. */
+    CHECK(answered(ask((struct request){2, "screen", 20, NULL, NULL, NULL, 0}), BLOCK_HANDLER_PASS, 0) && holds(64));
+    CHECK(answered(answer(2, "screen", false, "head", page, PAGE), BLOCK_HANDLER_FIRST, 0) && holds(64 + 4 + PAGE));
+    CHECK(answered(answer(2, "screen", false, "a head", page, 200), BLOCK_HANDLER_FIRST, 0) && holds(64 + 6 + 200));
+    CHECK(answered(answer(2, "screen", true, "head", page, PAGE), BLOCK_HANDLER_PLAIN, 0) && holds(64 + 6 + 200));
+    CHECK(refused(answer(2, "screen", false, "head", page, V), 7, 160) && holds(64 + 6 + 200));
+
+    /* The last chunk drops the cache. One before it does not, nor does a response that is sent whole. */
+    CHECK(answered(ask((struct request){3, "screen", 20, NULL, &chunk0, NULL, 0}), BLOCK_HANDLER_SERVED, 0) && holds(64 + 6 + 200));
+    CHECK(answered(answer(3, "screen", false, "head", page, 100), BLOCK_HANDLER_WHOLE, 0) && holds(64 + 6 + 200));
+    CHECK(answered(ask((struct request){3, "screen", 20, NULL, &chunk1, NULL, 0}), BLOCK_HANDLER_SERVED, 0) && holds(64));
+
+    /* Refusal 8 in a request whose body was complete: the body is gone, the cache stays. */
+    CHECK(answered(answer(4, "screen", false, "head", page, PAGE), BLOCK_HANDLER_FIRST, 0) && holds(64 + 4 + PAGE));
+    CHECK(answered(push(4, "screen", 0, true, NULL), BLOCK_HANDLER_CONTINUE, 95) && holds(128 + 4 + PAGE));
+    CHECK(refused(ask((struct request){4, "screen", 20, NULL, &far, NULL, 0}), 8, 128) && holds(128 + 4 + PAGE));
+    CHECK(refused(push(4, "screen", 1, false, &far), 8, 128) && holds(64 + 4 + PAGE));
+    /* So is one whose request is served a chunk. */
+    CHECK(answered(push(5, "screen", 0, true, NULL), BLOCK_HANDLER_CONTINUE, 95) && holds(128 + 4 + PAGE));
+    CHECK(answered(push(5, "screen", 1, false, &chunk1), BLOCK_HANDLER_SERVED, 0) && holds(64 + 4 + PAGE));
+}
+
+/* Expired entries count until a call frees them. */
+static void bytes_expired(bool strict)
+{
+    static uint8_t page[PAGE];
+    struct block_handler_option far = block_handler_write(4000, true, 2);
+    start(strict);
+    const uint64_t end = 5 + h.config.lifetime;
+    push(5, "lane 1", 0, true, NULL);
+    ask((struct request){5, "screen", 20, NULL, NULL, NULL, 0});
+    answer(5, "screen", false, "head", page, PAGE);
+    push(6, "lane 2", 0, true, NULL);
+    push(6, "lane 2", 1, true, NULL);
+    CHECK(holds(64 + 304 + 128));
+
+    /* Refusals 1 and 2 free nothing. */
+    CHECK(refused(ask((struct request){end, "lane 2", 65536, NULL, NULL, NULL, 0}), 1, 160) && holds(64 + 304 + 128));
+    CHECK(refused(push(4, "lane 2", 2, true, NULL), 2, 160) && holds(64 + 304 + 128));
+    /* The first two have expired by then, and a refused call of the third frees them. */
+    struct block_handler_reply reply = ask((struct request){end, "lane 2", 20, &far, NULL, page, SIZE});
+    CHECK((strict ? refused(reply, 9, 136) : refused(reply, 6, 160)) && holds(128));
+    /* A key that expired itself begins anew. */
+    CHECK(answered(push(2 * end, "lane 2", 0, true, NULL), BLOCK_HANDLER_CONTINUE, 95) && holds(64));
+}
+
+/* Both calls on the table as it stands get refusal 1, and every byte of the table and the memories stays. */
+static bool both_refused(uint64_t time)
+{
+    static struct handler before;
+    static const uint8_t bytes[SIZE];
+    memcpy(&before, &h, sizeof h);
+    struct block_handler_reply request = block_handler_request(&h.table, h.config, h.upload, sizeof h.upload, h.response, sizeof h.response,
+        time, bytes, 4, 20, false, bytes, 0, false, bytes, 0, bytes, SIZE);
+    struct block_handler_reply response = block_handler_response(&h.table, h.config, h.upload, sizeof h.upload, h.response,
+        sizeof h.response, time, bytes, 4, 20, false, bytes, 4, bytes, SIZE);
+    return refused(request, 1, 160) && refused(response, 1, 160) && memcmp(&before, &h, sizeof h) == 0;
+}
+
+/* A table with another figure, and one with other lengths. */
+static void wrong_figure(void)
+{
+    static uint8_t page[PAGE];
+    start(true);
+    h.table.held = 1;
+    CHECK(holds(1) && both_refused(1));
+
+    start(true);
+    push(1, "lane", 0, true, NULL);
+    answer(1, "lane", false, "head", page, PAGE);
+    const uint64_t right = 64 + 4 + PAGE, wrong[] = {0, 64, right - 1, right + 1, 2 * right, right + 4294967296, UINT64_MAX};
+    CHECK(h.table.held == right);
+    for (size_t i = 0; i < sizeof wrong / sizeof wrong[0]; i++) {
+        h.table.held = wrong[i];
+        CHECK(holds(wrong[i]) && both_refused(1));
+        /* Also where its time has run out. */
+        CHECK(both_refused(1 + h.config.lifetime) && holds(wrong[i]));
+    }
+    h.table.held = right;
+    h.table.entries[0].state.assembled.len++;
+    CHECK(both_refused(1));
+    h.table.held++;
+    CHECK(answered(ask((struct request){1, "lane", 20, NULL, NULL, NULL, 0}), BLOCK_HANDLER_PASS, 0) && holds(right + 1));
+    h.table.entries[0].state.cached.payload = V - 4 + 1;
+    h.table.held = walked();
+    CHECK(both_refused(1));
+    h.table.entries[0].state.cached.payload--;
+    h.table.held--;
+    CHECK(answered(ask((struct request){1, "lane", 20, NULL, NULL, NULL, 0}), BLOCK_HANDLER_PASS, 0) && holds(65 + V));
+}
+
 /* A reply that no call gave shows no bytes outside the lengths told. */
 static void made_up_reply(void)
 {
@@ -375,10 +517,13 @@ int main(void)
         push_list(strict);
         push_again(strict);
         refusals(strict);
+        bytes_held(strict);
+        bytes_expired(strict);
     }
     fetch_page();
     clock_and_table();
     off_limits();
+    wrong_figure();
     printf("blocks.c: %d checks, %d faults\n", checks, faults);
     return faults == 0 ? 0 : 1;
 }

@@ -1,5 +1,6 @@
 /* The lent forms, run: every call is made twice, by the library's whole call on one table, and on a second table by a caller who keeps it: the walk, the entry
- * that it finds or a new one, the lent call, the clock. After each call the replies, all entries, the clocks and both memories are compared. */
+ * that it finds or a new one, the lent call, the clock, the bytes held, which it counts. After each call the replies, all entries, the clocks, the bytes held and both
+ * memories are compared. */
 #include "block_handler.h"
 
 #include <stdio.h>
@@ -100,8 +101,8 @@ static bool same_world(void)
     for (size_t i = 0; i < BLOCK_HANDLER_ENTRIES; i++)
         if (!same_entry(&whole.table.entries[i], &lent.table.entries[i]))
             return false;
-    return whole.table.clock == lent.table.clock && memcmp(whole.upload, lent.upload, sizeof whole.upload) == 0
-        && memcmp(whole.response, lent.response, sizeof whole.response) == 0;
+    return whole.table.clock == lent.table.clock && block_handler_bytes_held(&whole.table) == lent.table.held
+        && memcmp(whole.upload, lent.upload, sizeof whole.upload) == 0 && memcmp(whole.response, lent.response, sizeof whole.response) == 0;
 }
 
 static void start(bool strict)
@@ -154,6 +155,17 @@ static struct block_handler_reply on_entry(struct block_handler_entry *e, size_t
         q->payload, q->payload_len);
 }
 
+static uint64_t counted(const struct block_handler_entry *entries)
+{
+    uint64_t sum = 0;
+    for (size_t i = 0; i < BLOCK_HANDLER_ENTRIES; i++) {
+        const struct block_handler_state *state = &entries[i].state;
+        if (entries[i].used)
+            sum += (uint64_t)state->assembled.len + (state->cached.held ? (uint64_t)state->cached.head + state->cached.payload : 0);
+    }
+    return sum;
+}
+
 /* Checks 2 and 3 are this caller's; every call here keeps to the limits, and so does the table. Where the walk finds no place, sixteen keys are live, and
  * it freed nothing. */
 static struct block_handler_reply by_the_caller(const struct call *q)
@@ -169,7 +181,9 @@ static struct block_handler_reply by_the_caller(const struct call *q)
     if (!e->used)
         *e = started(q);
     lent.table.clock = q->time;
-    return on_entry(e, place, q);
+    struct block_handler_reply reply = on_entry(e, place, q);
+    lent.table.held = counted(lent.table.entries);
+    return reply;
 }
 
 /* ---- Calls by chance, most of them such as a lane would make. */

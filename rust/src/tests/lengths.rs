@@ -4,9 +4,10 @@ use std::collections::BTreeMap;
 use std::time::Duration;
 
 use super::calls::{Calls, Random};
+use super::model::held;
 use super::Pair;
 use crate::ffi::{fresh, Entry, Table};
-use crate::{BlockHandler, BlockHandlerConfig, Refusal, Request, RequestAnswer, Response};
+use crate::{BlockHandler, BlockHandlerConfig, Refusal, Request, RequestAnswer, Response, ResponseAnswer};
 
 const CONFIG: BlockHandlerConfig = BlockHandlerConfig {
     max_total_message_size: 100,
@@ -113,14 +114,84 @@ fn options_of_any_length() {
     }
 }
 
-/// Changes one field of one entry, or the clock. Some of what comes out is still within the limits.
+/// A block of 16 bytes assembled, and a page cached with its head: 16 + 4 + 40 bytes.
+fn holding() -> BlockHandler {
+    let mut handler = BlockHandler::new(CONFIG);
+    let asked = Request { block2: Some(&[0x00]), ..REQUEST };
+    taken(&mut handler, &asked);
+    let page = Response { payload: &[7; 40], ..RESPONSE };
+    assert!(matches!(handler.intercept_response(&page), Ok(ResponseAnswer::First { .. })));
+    let block = Request { block1: Some(&[0x08]), ..REQUEST };
+    assert!(matches!(handler.intercept_request(&block), Ok(RequestAnswer::Continue { .. })));
+    assert_eq!(handler.bytes_held(), 60);
+    handler
+}
+
+/// Any figure but the right one is off the limits, and it is read as it stands.
+#[test]
+fn another_figure() {
+    let mut handler = holding();
+    let bits = (0..64).map(|bit| 60 ^ (1 << bit));
+    for figure in [0, 16, 44, 59, 61, 120, 60 + (1 << 32), u64::MAX].into_iter().chain(bits) {
+        handler.table.held = figure;
+        refused(&mut handler, &REQUEST);
+        assert_eq!(handler.bytes_held(), figure);
+    }
+    handler.table.held = 60;
+    taken(&mut handler, &REQUEST);
+
+    let mut handler = BlockHandler::new(CONFIG);
+    handler.table.held = 1;
+    refused(&mut handler, &REQUEST);
+    handler.table.held = 0;
+    taken(&mut handler, &REQUEST);
+}
+
+/// Changed lengths are off the limits with the old figure. With the right one they are within them as far as the pieces go.
+#[test]
+fn other_lengths() {
+    for (assembled, head, payload, within) in [
+        (16, 4, 40, true),
+        (64, 4, 40, true),
+        (65, 4, 40, false),
+        (u32::MAX, 4, 40, false),
+        (16, 8, 40, true),
+        (16, 9, 40, false),
+        (16, 4, 44, true),
+        (16, 4, 45, false),
+        (16, 4, u32::MAX, false),
+        (64, 48, 0, true),
+        (64, 0, 48, true),
+        // The figure stays 60.
+        (17, 4, 39, true),
+        (16, 5, 39, true),
+    ] {
+        let mut handler = holding();
+        let state = &mut handler.table.entries[0].state;
+        state.assembled.len = assembled;
+        (state.cached.head, state.cached.payload) = (head, payload);
+        let figure = u64::from(assembled) + u64::from(head) + u64::from(payload);
+        if figure != 60 {
+            refused(&mut handler, &REQUEST);
+        }
+        handler.table.held = figure;
+        if within {
+            taken(&mut handler, &REQUEST);
+            assert_eq!(handler.bytes_held(), figure);
+        } else {
+            refused(&mut handler, &REQUEST);
+        }
+    }
+}
+
+/// Changes one field of one entry, the clock or the bytes held. Some of what comes out is still within the limits.
 fn damage(random: &mut Random, table: &mut Table) {
     let number = random.one_of(&[0, 1, 16, 48, 49, 64, 65, 1_048_575, 1_048_576, u32::MAX]);
     let byte = random.one_of(&[0, 1, 7, 8, 64, 65, 128, 129, 255]);
     let (i, j) = (random.below(16) as usize, random.below(16) as usize);
     let twin = table.entries[j];
     let e: &mut Entry = &mut table.entries[i];
-    match random.below(16) {
+    match random.below(17) {
         0 => e.used = !e.used,
         1 => e.key.len = byte,
         2 => e.key.bytes[usize::from(byte % 64)] ^= 1,
@@ -136,7 +207,15 @@ fn damage(random: &mut Random, table: &mut Table) {
         12 => e.state.recorded.exponent = byte,
         13 => e.state.recorded.num = number,
         14 => *e = twin,
-        _ => table.clock = random.one_of(&[0, table.clock.saturating_sub(1), table.clock + 1, u64::MAX]),
+        15 => table.clock = random.one_of(&[0, table.clock.saturating_sub(1), table.clock + 1, u64::MAX]),
+        _ => {
+            table.held = random.one_of(&[0, table.held.wrapping_sub(1), table.held + 1, table.held + (1 << 32), u64::MAX]);
+            return;
+        }
+    }
+    // With the old figure other lengths are always refused: with the right one they are tried at their own limits.
+    if random.percent(75) {
+        table.held = held(&table.entries);
     }
 }
 
@@ -145,6 +224,8 @@ fn damage(random: &mut Random, table: &mut Table) {
 fn damaged_tables() {
     let mut random = Random(4);
     let mut seen = BTreeMap::new();
+    // Of the tables whose lengths count otherwise: whether the figure was set right, and whether the call was refused by 1.
+    let mut recounted = BTreeMap::new();
     for seed in 0..100 {
         let config = BlockHandlerConfig { strict: seed % 2 == 0, ..CONFIG };
         let mut calls = Calls::new(seed, config, random.one_of(&[3, 15, 16]));
@@ -155,12 +236,18 @@ fn damaged_tables() {
             let mut damaged = Pair { ours: pair.ours.clone(), model: pair.model.clone(), seen };
             damage(&mut random, &mut damaged.ours.table);
             damaged.model.table = damaged.ours.table;
-            damaged.call(&calls, &call);
+            let Table { held: figure, entries, .. } = damaged.ours.table;
+            let name = damaged.call(&calls, &call);
+            if held(&entries) != pair.ours.table.held {
+                *recounted.entry((figure == held(&entries), name == "1")).or_insert(0) += 1;
+            }
             seen = damaged.seen;
             pair.call(&calls, &call);
         }
     }
-    println!("damaged tables: {seen:?}");
+    println!("damaged tables: {seen:?}; other lengths, by figure right and refused by 1: {recounted:?}");
     let within: u64 = seen.iter().filter(|(name, _)| **name != "1").map(|(_, n)| n).sum();
     assert!(seen["1"] > 1000 && within > 1000);
+    assert!(recounted[&(true, false)] > 100 && recounted[&(true, true)] > 100 && recounted[&(false, true)] > 100);
+    assert!(!recounted.contains_key(&(false, false)));
 }

@@ -1,6 +1,7 @@
 //! The archive's answers, table and memories against a plain model of document 01, call by call.
 
 mod calls;
+mod held;
 mod lengths;
 mod messages;
 mod model;
@@ -58,8 +59,9 @@ impl Pair {
         Self { ours, model: Model { config: numbers, table, upload, response }, seen: BTreeMap::new() }
     }
 
-    /// Makes the call on both sides. The answers, the tables and every byte of the memories have to be the same.
-    fn call(&mut self, calls: &Calls, call: &Call) {
+    /// Makes the call on both sides. The answers, the tables with the bytes held, and every byte of the memories have to be the same.
+    /// Gives the answer's name.
+    fn call(&mut self, calls: &Calls, call: &Call) -> &'static str {
         let name = match calls.request(call) {
             Some(request) => {
                 let ours = self.ours.intercept_request(&request);
@@ -75,11 +77,13 @@ impl Pair {
         };
         self.same_state(call);
         *self.seen.entry(name).or_default() += 1;
+        name
     }
 
     fn same_state(&self, call: &Call) {
         let (ours, model) = (&self.ours, &self.model);
         assert_eq!(ours.table, model.table, "{call:?}");
+        assert_eq!(ours.bytes_held(), model.table.held, "bytes held, {call:?}");
         assert!(ours.upload.as_ref() == model.upload, "upload memory, {call:?}");
         assert!(ours.response.as_ref() == model.response, "response memory, {call:?}");
         assert!(ours.upload.stands() && ours.response.stands(), "fences, {call:?}");

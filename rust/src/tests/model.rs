@@ -88,6 +88,14 @@ fn live(entry: &Entry, time: u64, lifetime: u64) -> bool {
     entry.used && time - entry.touched < lifetime
 }
 
+/// The bytes held: over entries in use, assembled length plus head and payload length of a cached response. An expired entry is in use
+/// until a call frees it.
+pub fn held(entries: &[Entry; 16]) -> u64 {
+    let in_use = entries.iter().filter(|e| e.used);
+    let cached = |c: Cached| if c.held { u64::from(c.head) + u64::from(c.payload) } else { 0 };
+    in_use.map(|e| u64::from(e.state.assembled.len) + cached(e.state.cached)).sum()
+}
+
 fn recorded(state: &BlockState) -> Option<BlockValue> {
     let r = state.recorded;
     r.given.then_some(BlockValue { num: r.num, more: r.more, size_exponent: r.exponent })
@@ -137,7 +145,7 @@ impl Model {
         let entries = &self.table.entries;
         let used = |i: &usize| entries[*i].used;
         let twice = |i: usize| (0..i).filter(used).any(|j| stored_key(&entries[i]) == stored_key(&entries[j]));
-        entries.iter().all(|e| self.entry_in_limits(e)) && !(0..16).filter(used).any(twice)
+        entries.iter().all(|e| self.entry_in_limits(e)) && !(0..16).filter(used).any(twice) && self.table.held == held(entries)
     }
 
     /// Checks 1 to 3, and the touch: the index of the key's entry.
@@ -166,114 +174,134 @@ impl Model {
         Ok(i)
     }
 
-    // A request call
-
+    /// A call that passes checks 1 to 3 changes its key's state and a piece. Then the bytes held are counted anew, whatever it answers.
     pub fn intercept_request<'a>(&'a mut self, request: &Request<'a>) -> Result<RequestAnswer<'a>, Refusal> {
-        let Request { time, key, bare, payload, .. } = *request;
-        let (block1, block2) = (read(request.block1), read(request.block2));
-        let i = self.place(time, key, bare, 0, payload.len())?;
-        let reply = negotiate(block1, bare as u64, payload.len() as u64, self.config.limit as u64)?;
-
-        let mut completed = None;
-        match (block1, reply) {
-            (Some(block), Some(reply)) => {
-                let length = self.splice(i, block, payload)?;
-                if block.more {
-                    return Ok(RequestAnswer::Continue { block1: reply });
-                }
-                self.table.entries[i].state.assembled = Assembled::default();
-                completed = Some((reply, length));
-            }
-            (_, Some(reply)) => return Ok(RequestAnswer::TooLarge { block1: reply }),
-            (_, None) => {}
-        }
-
-        let state = &mut self.table.entries[i].state;
-        state.recorded = recording(block2);
-        if let (Some(block), true) = (block2, state.cached.held) {
-            return self.serve(i, block, completed.map(|(reply, _)| reply));
-        }
-        let at = i * self.config.upload;
-        Ok(match completed {
-            Some((block1, length)) => RequestAnswer::Handed { block1, body: &self.upload[at..at + length] },
-            None => RequestAnswer::Pass { body: payload },
-        })
+        let i = self.place(request.time, request.key, request.bare, 0, request.payload.len())?;
+        let Self { config, table, upload, response } = self;
+        let (upload, response) = (&mut upload[i * config.upload..], &response[i * config.response..]);
+        let answer = answer_request(config, &mut table.entries[i].state, upload, response, request);
+        table.held = held(&table.entries);
+        answer
     }
-
-    fn serve(&mut self, i: usize, block: BlockValue, block1: Option<BlockValue>) -> Result<RequestAnswer<'_>, Refusal> {
-        let cached = &mut self.table.entries[i].state.cached;
-        let Cached { head, payload, .. } = *cached;
-        let (from, to, block2) = chunk(payload.into(), block)?;
-        if !block2.more {
-            *cached = Cached::default();
-        }
-        let (head, chunks) = self.response[i * self.config.response..].split_at(head.into());
-        Ok(RequestAnswer::Served { block1, block2, head, chunk: &chunks[from..to] })
-    }
-
-    // Splice, after strict mode's own checks
-
-    /// Puts the payload into the key's piece and gives the assembled length.
-    fn splice(&mut self, i: usize, block: BlockValue, payload: &[u8]) -> Result<usize, Refusal> {
-        let (a, s, p) = (start(block), size(block), payload.len() as u64);
-        let assembled = self.table.entries[i].state.assembled;
-        let mut length = u64::from(assembled.len);
-        if self.config.strict {
-            if block.size_exponent == 7 || p > s || (block.more && p != s) {
-                return Err(Refusal::BadForm);
-            }
-            if block.num == 0 {
-                length = 0;
-            } else if a != length || block.size_exponent != assembled.exponent {
-                return Err(Refusal::NotNext);
-            }
-        }
-        let e = a + s;
-        if e > length + JUMP {
-            return Err(Refusal::Jump);
-        }
-        let new = length.max(e) - s + p;
-        if new > self.config.upload as u64 {
-            return Err(Refusal::NoRoom);
-        }
-        let piece = &mut self.upload[i * self.config.upload..];
-        let mut body = piece[..length as usize].to_vec();
-        let tail = body.split_off(e.min(length) as usize);
-        body.resize(a as usize, 0);
-        body.extend_from_slice(payload);
-        body.extend_from_slice(&tail);
-        piece[..body.len()].copy_from_slice(&body);
-
-        let exponent = if new == 0 { 0 } else { block.size_exponent };
-        self.table.entries[i].state.assembled = Assembled { len: new as u32, exponent };
-        Ok(body.len())
-    }
-
-    // A response call
 
     pub fn intercept_response<'a>(&mut self, response: &Response<'a>) -> Result<ResponseAnswer<'a>, Refusal> {
-        let Response { time, key, bare, own_block2, head, payload } = *response;
-        let i = self.place(time, key, bare, head.len(), payload.len())?;
-        if own_block2 {
-            return Ok(ResponseAnswer::Plain);
-        }
-        let state = &mut self.table.entries[i].state;
-        let n = payload.len() as u64;
-        let Some(block) = negotiate(recorded(state), bare as u64, n, self.config.limit as u64)? else {
-            return Ok(ResponseAnswer::Plain);
-        };
-        let (from, to, block2) = chunk(n, block)?;
-        let chunk = &payload[from..to];
-        if !block2.more {
-            return Ok(ResponseAnswer::Whole { block2, chunk });
-        }
-        if head.len() + payload.len() > self.config.response {
-            return Err(Refusal::NoRoom);
-        }
-        let piece = &mut self.response[i * self.config.response..];
-        piece[..head.len()].copy_from_slice(head);
-        piece[head.len()..head.len() + payload.len()].copy_from_slice(payload);
-        state.cached = Cached { held: true, head: head.len() as u8, payload: n as u32 };
-        Ok(ResponseAnswer::First { block2, chunk })
+        let i = self.place(response.time, response.key, response.bare, response.head.len(), response.payload.len())?;
+        let Self { config, table, response: memory, .. } = self;
+        let answer = answer_response(config, &mut table.entries[i].state, &mut memory[i * config.response..], response);
+        table.held = held(&table.entries);
+        answer
     }
+}
+
+// A request call
+
+fn answer_request<'a>(
+    config: &Config,
+    state: &mut BlockState,
+    upload: &'a mut [u8],
+    response: &'a [u8],
+    request: &Request<'a>,
+) -> Result<RequestAnswer<'a>, Refusal> {
+    let Request { bare, payload, .. } = *request;
+    let (block1, block2) = (read(request.block1), read(request.block2));
+    let reply = negotiate(block1, bare as u64, payload.len() as u64, config.limit as u64)?;
+
+    let mut completed = None;
+    match (block1, reply) {
+        (Some(block), Some(reply)) => {
+            let length = splice(config, &mut state.assembled, upload, block, payload)?;
+            if block.more {
+                return Ok(RequestAnswer::Continue { block1: reply });
+            }
+            state.assembled = Assembled::default();
+            completed = Some((reply, length));
+        }
+        (_, Some(reply)) => return Ok(RequestAnswer::TooLarge { block1: reply }),
+        (_, None) => {}
+    }
+
+    state.recorded = recording(block2);
+    if let (Some(block), true) = (block2, state.cached.held) {
+        return serve(&mut state.cached, response, block, completed.map(|(reply, _)| reply));
+    }
+    Ok(match completed {
+        Some((block1, length)) => RequestAnswer::Handed { block1, body: &upload[..length] },
+        None => RequestAnswer::Pass { body: payload },
+    })
+}
+
+fn serve<'a>(cached: &mut Cached, piece: &'a [u8], block: BlockValue, block1: Option<BlockValue>) -> Result<RequestAnswer<'a>, Refusal> {
+    let Cached { head, payload, .. } = *cached;
+    let (from, to, block2) = chunk(payload.into(), block)?;
+    if !block2.more {
+        *cached = Cached::default();
+    }
+    let (head, chunks) = piece.split_at(head.into());
+    Ok(RequestAnswer::Served { block1, block2, head, chunk: &chunks[from..to] })
+}
+
+// Splice, after strict mode's own checks
+
+/// Puts the payload into the key's piece and gives the assembled length.
+fn splice(config: &Config, assembled: &mut Assembled, piece: &mut [u8], block: BlockValue, payload: &[u8]) -> Result<usize, Refusal> {
+    let (a, s, p) = (start(block), size(block), payload.len() as u64);
+    let mut length = u64::from(assembled.len);
+    if config.strict {
+        if block.size_exponent == 7 || p > s || (block.more && p != s) {
+            return Err(Refusal::BadForm);
+        }
+        if block.num == 0 {
+            length = 0;
+        } else if a != length || block.size_exponent != assembled.exponent {
+            return Err(Refusal::NotNext);
+        }
+    }
+    let e = a + s;
+    if e > length + JUMP {
+        return Err(Refusal::Jump);
+    }
+    let new = length.max(e) - s + p;
+    if new > config.upload as u64 {
+        return Err(Refusal::NoRoom);
+    }
+    let mut body = piece[..length as usize].to_vec();
+    let tail = body.split_off(e.min(length) as usize);
+    body.resize(a as usize, 0);
+    body.extend_from_slice(payload);
+    body.extend_from_slice(&tail);
+    piece[..body.len()].copy_from_slice(&body);
+
+    let exponent = if new == 0 { 0 } else { block.size_exponent };
+    *assembled = Assembled { len: new as u32, exponent };
+    Ok(body.len())
+}
+
+// A response call
+
+fn answer_response<'a>(
+    config: &Config,
+    state: &mut BlockState,
+    piece: &mut [u8],
+    response: &Response<'a>,
+) -> Result<ResponseAnswer<'a>, Refusal> {
+    let Response { bare, own_block2, head, payload, .. } = *response;
+    if own_block2 {
+        return Ok(ResponseAnswer::Plain);
+    }
+    let n = payload.len() as u64;
+    let Some(block) = negotiate(recorded(state), bare as u64, n, config.limit as u64)? else {
+        return Ok(ResponseAnswer::Plain);
+    };
+    let (from, to, block2) = chunk(n, block)?;
+    let chunk = &payload[from..to];
+    if !block2.more {
+        return Ok(ResponseAnswer::Whole { block2, chunk });
+    }
+    if head.len() + payload.len() > config.response {
+        return Err(Refusal::NoRoom);
+    }
+    piece[..head.len()].copy_from_slice(head);
+    piece[head.len()..head.len() + payload.len()].copy_from_slice(payload);
+    state.cached = Cached { held: true, head: head.len() as u8, payload: n as u32 };
+    Ok(ResponseAnswer::First { block2, chunk })
 }
