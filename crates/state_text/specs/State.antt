@@ -36,8 +36,11 @@ nextText some i e = cond (e .used) (cond some (59 ∷ entryText i e) (entryText 
 
 -- ---- the line
 
+-- `N state CLOCK HELD ` with its last space
+unfoldable pub numbersText : ℕ → Table → Bytes
+numbersText n t =
+    decimal n ++ ((32 ∷ 115 ∷ 116 ∷ 97 ∷ 116 ∷ 101 ∷ 32 ∷ []) ++ (decimal (t .clock) ++ (32 ∷ decimal (t .held) ++ (32 ∷ []))))
+
 -- `N state CLOCK HELD ENTRIES UPLOAD RESPONSE`
 unfoldable pub stateText : ℕ → Table → Bytes → Bytes → Bytes
-stateText n t upload response =
-    decimal n ++ ((32 ∷ 115 ∷ 116 ∷ 97 ∷ 116 ∷ 101 ∷ 32 ∷ []) ++ (decimal (t .clock) ++ (32 ∷ decimal (t .held) ++ (32 ∷ entriesText (t .entries)
-    ++ (32 ∷ memoriesText upload response)))))
+stateText n t upload response = numbersText n t ++ (entriesText (t .entries) ++ (32 ∷ memoriesText upload response))

@@ -8,7 +8,7 @@ ghost use Prim.Native.Nat.{_+_, _≤_};
 ghost use lib.ListN.{length};
 ghost use lib.Dec.{ltb};
 ghost use Rattle.pieces.specs.Memory.{Put};
-ghost use Rattle.state_text.specs.State.{nextText, entriesText, stateText};
+ghost use Rattle.state_text.specs.State.{nextText, entriesText, numbersText, stateText};
 
 // An entry after those before it, where any are: the first stands at `base`.
 fn put_next(out: &mut [u8], base: usize, at: usize, i: u64, e: Entry) -> usize
@@ -44,6 +44,21 @@ fn put_entries(out: &mut [u8], at: usize, entries: [Entry; 16]) -> usize
     k
 }
 
+// `N state CLOCK HELD ` with its last space
+fn put_numbers(out: &mut [u8], at: usize, n: u64, table: Table) -> usize
+    requires { ⌜ at + 100 ≤ length (now out) ⌝ }
+    ensures { λ r. ⌜ Put (now (out .entry)) at (numbersText n table) (now (out .exit)) r ⌝ }
+    ensures { λ r. ⌜ r ≤ at + 100 ⌝ }
+{
+    let held = block_table::bytes_held(table);
+    let k = script_text::put_decimal(out, at, n);
+    let k = pieces::put(out, k, b" state ");
+    let k = script_text::put_decimal(out, k, table.clock);
+    let k = pieces::put_byte(out, k, b' ');
+    let k = script_text::put_decimal(out, k, held);
+    pieces::put_byte(out, k, b' ')
+}
+
 // `N state CLOCK HELD ENTRIES UPLOAD RESPONSE`
 pub fn put_state<'a>(
     out: &mut [u8],
@@ -58,12 +73,7 @@ pub fn put_state<'a>(
     ensures { λ r. ⌜ r ≤ at + 7000 ⌝ }
 {
     let entries = table.entries;
-    let k = script_text::put_decimal(out, at, n);
-    let k = pieces::put(out, k, b" state ");
-    let k = script_text::put_decimal(out, k, table.clock);
-    let k = pieces::put_byte(out, k, b' ');
-    let k = script_text::put_decimal(out, k, block_table::bytes_held(table));
-    let k = pieces::put_byte(out, k, b' ');
+    let k = put_numbers(out, at, n, table);
     let k = put_entries(out, k, entries);
     let k = pieces::put_byte(out, k, b' ');
     memory::put_memories(out, k, upload, response)
