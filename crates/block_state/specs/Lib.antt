@@ -1,4 +1,5 @@
 pub mod Message
 pub mod State
+pub mod Held
 pub mod Step
 pub mod Contract

@@ -14,12 +14,13 @@ use Rattle.block_state.proofs.Fits.{assembled-most}
 use Rattle.keys.specs.Lists.{all}
 use Rattle.entries.specs.declared.Entry.{Entry}
 use Rattle.entries.specs.Entries.{free, startFrom, entryOk, live, swept}
-use Rattle.entries.specs.Held.{heldIn, heldBy, held}
+use Rattle.block_state.specs.Held.{heldIn, heldOf}
+use Rattle.entries.specs.Held.{heldBy, held}
 use Rattle.entries.proofs.Entries.{EntryFits, entry-fits, swept-live, swept-dead}
 
 -- ---- of one entry
 
-pub held-used : (e : Entry) → e .used ≡ true → heldBy e ≡ e .state .assembled .len + heldIn (e .state .cached)
+pub held-used : (e : Entry) → e .used ≡ true → heldBy e ≡ heldOf (e .state)
 unfolding heldBy
 held-used e u = rw u
 

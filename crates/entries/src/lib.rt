@@ -5,13 +5,15 @@ use block_state::Cached;
 use block_state::Recorded;
 use config::Config;
 use keys::Key;
+use state_limits::Checked;
 ghost use mathlib.Core.Path.{_≡_};
 ghost use mathlib.Core.Bool.{true, false};
 ghost use Prim.Native.Nat.{_≤_, _<_};
 ghost use Rattle.block_state.specs.State.{nothing};
 ghost use Rattle.keys.specs.Keys.{keySized};
 ghost use Rattle.entries.specs.Entries.{free, startFrom, entryOk, clash, swept};
-ghost use Rattle.entries.specs.Held.{heldIn, heldBy};
+ghost use Rattle.block_state.specs.Held.{heldIn};
+ghost use Rattle.entries.specs.Held.{heldBy};
 ghost use Rattle.entries.specs.Quick.{tagOf, sized};
 
 #[repr(C)]
@@ -24,13 +26,17 @@ pub struct Entry {
 
 // ---- Limits
 
-fn used_ok(config: Config, clock: u64, e: Entry) -> bool
+fn used_checked(config: Config, clock: u64, e: Entry) -> Checked
     requires { ⌜ e .used ≡ true ⌝ }
-    ensures { λ r. ⌜ r ≡ entryOk config clock e ⌝ }
+    ensures { λ r. ⌜ (r .ok ≡ entryOk config clock e) × (r .bytes ≡ heldBy e) × (r .bytes < 17179869184) ⌝ }
 {
     let key = e.key;
     let state = e.state;
-    keys::stored_ok(key) & (e.touched <= clock) & state_limits::state_ok(config, state)
+    let found = state_limits::state_checked(config, state);
+    Checked {
+        ok: keys::stored_ok(key) & (e.touched <= clock) & found.ok,
+        bytes: found.bytes,
+    }
 }
 
 fn free_ok(config: Config, clock: u64, e: Entry) -> bool
@@ -42,13 +48,17 @@ fn free_ok(config: Config, clock: u64, e: Entry) -> bool
     keys::is_no_key(key) & (e.touched == 0) & state_limits::is_nothing(state)
 }
 
-pub fn entry_ok(config: Config, clock: u64, e: Entry) -> bool
-    ensures { λ r. ⌜ (r ≡ entryOk config clock e) × (sized e ≡ true) ⌝ }
+// Whether an entry is within its limits, and what it holds.
+pub fn entry_checked(config: Config, clock: u64, e: Entry) -> Checked
+    ensures { λ r. ⌜ (r .ok ≡ entryOk config clock e) × (r .bytes ≡ heldBy e) × (r .bytes < 17179869184) × (sized e ≡ true) ⌝ }
 {
     if e.used {
-        return used_ok(config, clock, e);
+        return used_checked(config, clock, e);
     }
-    free_ok(config, clock, e)
+    Checked {
+        ok: free_ok(config, clock, e),
+        bytes: 0,
+    }
 }
 
 pub fn tag(e: Entry, i: u32) -> u32

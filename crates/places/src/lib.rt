@@ -118,9 +118,9 @@ fn see(seen: Seen, i: usize, e: Entry, config: Config, clock: u64, time: u64) ->
     requires { ⌜ (seen .held < 2 ^ 60) × (seen .gone < 2 ^ 60) ⌝ }
     ensures { λ r. ⌜ (r ≡ seenNext config clock time seen i e) × (sized e ≡ true) × (heldBy e < 17179869184) ⌝ }
 {
-    let ok = seen.ok & entries::entry_ok(config, clock, e);
-    let bytes = entries::held_by(e);
-    let held = seen.held + bytes;
+    let checked = entries::entry_checked(config, clock, e);
+    let ok = seen.ok & checked.ok;
+    let held = seen.held + checked.bytes;
     if expiry::is_live(e.used, e.touched, config.lifetime, time) {
         return Seen {
             ok,
@@ -136,7 +136,7 @@ fn see(seen: Seen, i: usize, e: Entry, config: Config, clock: u64, time: u64) ->
             freed: true,
             free: first_free(seen.free, i),
             held,
-            gone: seen.gone + bytes,
+            gone: seen.gone + checked.bytes,
         };
     }
     Seen {

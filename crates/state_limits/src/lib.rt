@@ -1,11 +1,20 @@
-// The limits of one key's state, which a lent table may be off.
+// The limits of one key's state, which a lent table may be off, and the bytes that it holds.
 use block_state::Assembled;
 use block_state::BlockState;
 use block_state::Cached;
 use block_state::Recorded;
 use config::Config;
 ghost use mathlib.Core.Path.{_≡_};
+ghost use Prim.Native.Nat.{_<_};
 ghost use Rattle.block_state.specs.State.{assembledOk, cachedOk, recordedOk, stateOk, isNothing};
+ghost use Rattle.block_state.specs.Held.{heldIn, heldOf};
+
+// What is found where something may be off its limits: whether it is within them, and how many bytes it holds, which are below 2^34 even off them. One look
+// gives both, since a call has to look at every entry.
+pub struct Checked {
+    pub ok: bool,
+    pub bytes: u64,
+}
 
 fn assembled_ok(config: Config, assembled: Assembled) -> bool
     ensures { λ r. ⌜ r ≡ assembledOk config assembled ⌝ }
@@ -15,15 +24,20 @@ fn assembled_ok(config: Config, assembled: Assembled) -> bool
         & ((assembled.len != 0) | (assembled.exponent == 0))
 }
 
-fn cached_ok(config: Config, cached: Cached) -> bool
-    ensures { λ r. ⌜ r ≡ cachedOk config cached ⌝ }
+fn cached_checked(config: Config, cached: Cached) -> Checked
+    ensures { λ r. ⌜ (r .ok ≡ cachedOk config cached) × (r .bytes ≡ heldIn cached) × (r .bytes < 8589934592) ⌝ }
 {
     if cached.held {
-        return (cached.head <= 128)
-            & (wide::usize_of_u8(cached.head) + wide::usize_of_u32(cached.payload)
-                <= config.response);
+        let bytes = wide::u64_of_u8(cached.head) + wide::u64_of_u32(cached.payload);
+        return Checked {
+            ok: (cached.head <= 128) & (bytes <= wide::u64_of_usize(config.response)),
+            bytes,
+        };
     }
-    (cached.head == 0) & (cached.payload == 0)
+    Checked {
+        ok: (cached.head == 0) & (cached.payload == 0),
+        bytes: 0,
+    }
 }
 
 fn recorded_ok(recorded: Recorded) -> bool
@@ -35,13 +49,24 @@ fn recorded_ok(recorded: Recorded) -> bool
     (recorded.num == 0) & !recorded.more & (recorded.exponent == 0)
 }
 
-pub fn state_ok(config: Config, state: BlockState) -> bool
-    ensures { λ r. ⌜ r ≡ stateOk config state ⌝ }
+pub fn state_checked(config: Config, state: BlockState) -> Checked
+    ensures { λ r. ⌜ (r .ok ≡ stateOk config state) × (r .bytes ≡ heldOf state) × (r .bytes < 17179869184) ⌝ }
 {
     let assembled = state.assembled;
     let cached = state.cached;
     let recorded = state.recorded;
-    assembled_ok(config, assembled) & cached_ok(config, cached) & recorded_ok(recorded)
+    let held = cached_checked(config, cached);
+    Checked {
+        ok: assembled_ok(config, assembled) & held.ok & recorded_ok(recorded),
+        bytes: wide::u64_of_u32(assembled.len) + held.bytes,
+    }
+}
+
+pub fn state_ok(config: Config, state: BlockState) -> bool
+    ensures { λ r. ⌜ r ≡ stateOk config state ⌝ }
+{
+    let checked = state_checked(config, state);
+    checked.ok
 }
 
 // The state is zeros, as a free entry's is.
