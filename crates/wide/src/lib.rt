@@ -32,8 +32,8 @@ pub fn u64_of_usize(x: usize) -> u64
     x as u64
 }
 
-pub fn u64_of_u32(x: u32) -> u64
-    ensures { λ r. ⌜ (r ≡ x) × (r < 2 ^ 32) ⌝ }
+pub fn u64_of_u32(word: u32) -> u64
+    ensures { λ r. ⌜ (r ≡ word) × (r < 2 ^ 32) ⌝ }
 {
-    x as u64
+    word as u64
 }
