@@ -200,8 +200,8 @@ struct block_handler_config block_handler_default_config(bool strict, size_t upl
 /* An empty table with clock 0. It holds no bytes. */
 struct block_handler_table block_handler_fresh(void);
 
-/* The bytes that a table holds: over its entries in use, the assembled length, and the lengths of head and payload of a cached response. At most 16 * (U + V). An
- * expired entry counts until a call frees it. The figure is read and not counted, in the same short time for every table: a screen may ask every second.
+/* The bytes that a table holds: over its entries in use, the assembled length, and the lengths of head and payload of a cached response: within the limits at
+ * most 16 * (U + V). An expired entry counts until a call frees it. The figure is read and not counted, in the same short time for every table: a screen may ask every second.
  * Nothing is refused here: of a table that is off the limits it is the figure that stands there. As with any two calls, not while another call has the table. */
 uint64_t block_handler_bytes_held(const struct block_handler_table *table);
 

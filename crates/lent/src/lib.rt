@@ -21,7 +21,7 @@ pub struct Seen {
 
 // A request on an entry that is lent, in use for its key: as `block_handler_find_and_free` left it, or a new key's: used, with its key, all else zeros. Its state is
 // stepped, and it is touched. `home` and `away` are where the key's two pieces begin. The checks of a call (limits, clock, expiry, place) are the caller's to
-// make first: then nothing is refused here that a call would not refuse.
+// make first: then nothing is refused here that a call would not refuse. If the entry is a table's, the table's figure is the caller's to set: what it holds may change here.
 #[no_mangle]
 pub extern "C" fn block_handler_lent_request<'a>(
     e: &mut Entry,
@@ -116,7 +116,7 @@ fn see(seen: Seen, i: usize, next: usize, e: Entry, key: &[u8]) -> Seen
 }
 
 // The walk over a lent row of sixteen entries: frees every entry that is not live, and gives the place of the key in the row that is left (its own entry, else the lowest free one), or 16.
-// Check 1 and the clock are the caller's to see to first. Of a row of another length the place means nothing, and may be no entry's.
+// Check 1 and the clock are the caller's to see to first, and the figure of a table that has these entries, after. Of a row of another length the place means nothing, and may be no entry's.
 #[no_mangle]
 pub extern "C" fn block_handler_find_and_free(
     entries: &mut [Entry],

@@ -4,3 +4,4 @@ pub mod Sixteen
 pub mod Crossing
 pub mod Pages
 pub mod Uploads
+pub mod Figures

@@ -16,7 +16,7 @@ use Rattle.keys.specs.Keys.{Name, keyOk, tagOf}
 use Rattle.keys.proofs.Turns.{drop-step, all-go, all-end, find-go, find-here}
 use Rattle.entries.specs.declared.Entry.{Entry}
 use Rattle.entries.specs.Entries.{free as unheld, entryOk, live, swept, sweep}
-use Rattle.entries.specs.Held.{heldBy, held as heldIn}
+use Rattle.entries.specs.Held.{heldBy, held as heldAll}
 use Rattle.entries.proofs.Held.{held-unused, free-holds, swept-holds, held-at}
 use Rattle.entries.specs.Quick.{holdsLive, notLive, sized, unexpired}
 use Rattle.entries.proofs.Entries.{swept-live, swept-dead}
@@ -96,8 +96,8 @@ module _ (c : Config) (clock time : ℕ) (l : List Entry) (named : Bool) where
   abbrev fresh : Entry → Bool
   fresh = unexpired (c .lifetime) time
 
-  abbrev gone : Entry → Bool
-  gone = notLive (c .lifetime) time
+  abbrev dead : Entry → Bool
+  dead = notLive (c .lifetime) time
 
   abbrev left : Entry → Entry
   left = swept (c .lifetime) time
@@ -106,11 +106,11 @@ module _ (c : Config) (clock time : ℕ) (l : List Entry) (named : Bool) where
   pub record Walked (s : Seen) (i : ℕ) : Type 0 where
     pub ok : (s .ok && all good (drop i l)) ≡ (named && all good l)
     pub freed : (s .freed || not (all fresh (drop i l))) ≡ not (all fresh l)
-    pub free : cond (leb 16 (s .free)) (i + find gone (drop i l)) (s .free) ≡ find gone l
+    pub free : cond (leb 16 (s .free)) (i + find dead (drop i l)) (s .free) ≡ find dead l
     pub most : s .free ≤ 16
     pub long : all sized (drop i l) ≡ all sized l
-    pub held : s .held + heldIn (drop i l) ≡ heldIn l
-    pub kept : s .held + heldIn (map left (drop i l)) ≡ s .gone + heldIn (map left l)
+    pub held : s .held + heldAll (drop i l) ≡ heldAll l
+    pub kept : s .held + heldAll (map left (drop i l)) ≡ s .gone + heldAll (map left l)
     pub held-most : s .held ≤ i * 17179869184
     pub gone-most : s .gone ≤ i * 17179869184
 
@@ -118,10 +118,10 @@ module _ (c : Config) (clock time : ℕ) (l : List Entry) (named : Bool) where
   pub record Ended (s : Seen) : Type 0 where
     pub ok : s .ok ≡ (named && all good l)
     pub freed : s .freed ≡ not (all fresh l)
-    pub free : s .free ≡ find gone l
+    pub free : s .free ≡ find dead l
     pub long : all sized l ≡ true
-    pub held : s .held ≡ heldIn l
-    pub kept : s .held ≡ s .gone + heldIn (map left l)
+    pub held : s .held ≡ heldAll l
+    pub kept : s .held ≡ s .gone + heldAll (map left l)
     pub few : s .held < 2 ^ 60
 
   pub walk-starts : Walked (record { ok = named; freed = false; free = 16; held = 0; gone = 0 }) 0
@@ -143,9 +143,9 @@ module _ (c : Config) (clock time : ℕ) (l : List Entry) (named : Bool) where
       abbrev e : Entry
       e = getD l i nil
 
-      still : (b : Bool) → leb 16 (s .free) ≡ b → (z : Bool) → gone e ≡ z → cond (leb 16 (cond (b && z) i (s .free))) ((i + 1) + find gone (drop (i + 1) l)) (cond (b && z) i (s .free)) ≡ find gone l
-      still true f true g = rw (lt-leb 16 i (omega arith)) (find-here gone l i nil (find gone l) h g (rw f at (was .free)))
-      still true f false g = rw f (find-go gone l i nil (find gone l) h g (rw f at (was .free)))
+      still : (b : Bool) → leb 16 (s .free) ≡ b → (z : Bool) → dead e ≡ z → cond (leb 16 (cond (b && z) i (s .free))) ((i + 1) + find dead (drop (i + 1) l)) (cond (b && z) i (s .free)) ≡ find dead l
+      still true f true g = rw (lt-leb 16 i (omega arith)) (find-here dead l i nil (find dead l) h g (rw f at (was .free)))
+      still true f false g = rw f (find-go dead l i nil (find dead l) h g (rw f at (was .free)))
       still false f z g = rw f (rw f at (was .free))
 
       lower : (b : Bool) → cond b i (s .free) ≤ 16
@@ -153,30 +153,30 @@ module _ (c : Config) (clock time : ℕ) (l : List Entry) (named : Bool) where
       lower false = was .most
 
       pub walk-goes : (n : Seen) → n ≡ seenNext c clock time s i e → sized e ≡ true → heldBy e < 17179869184 → Walked n (i + 1)
-      unfolding heldIn
+      unfolding heldAll
       walk-goes n is z few =
           rw is (record {
             ok = and-assoc (s .ok) (good e) (all good (drop (i + 1) l)) ∙ rw (drop-step l i nil h) at (was .ok);
             freed = freed-go fresh l i (s .freed) (not (all fresh l)) (not (fresh e)) h (sym (not-not (fresh e))) (was .freed);
-            free = still (leb 16 (s .free)) refl (gone e) refl;
-            most = lower (leb 16 (s .free) && gone e);
+            free = still (leb 16 (s .free)) refl (dead e) refl;
+            most = lower (leb 16 (s .free) && dead e);
             long = all-go sized l i nil h z ∙ was .long;
-            held = add-assoc (s .held) (heldBy e) (heldIn (drop (i + 1) l)) ∙ rw (drop-step l i nil h) at (was .held);
+            held = add-assoc (s .held) (heldBy e) (heldAll (drop (i + 1) l)) ∙ rw (drop-step l i nil h) at (was .held);
             kept =
-                let was-kept : s .held + (heldBy (left e) + heldIn (map left (drop (i + 1) l))) ≡ s .gone + heldIn (map left l) = rw (drop-step l i nil h) at (was .kept) in
+                let was-kept : s .held + (heldBy (left e) + heldAll (map left (drop (i + 1) l))) ≡ s .gone + heldAll (map left l) = rw (drop-step l i nil h) at (was .kept) in
                 omega (arith, was-kept, swept-holds (c .lifetime) time e);
             held-most = omega (arith, was .held-most, few);
             gone-most = omega (arith, was .gone-most, few);
           })
 
     module _ (h : length l ≤ i) (low : i ≤ 16) (sixteen : length l ≡ 16) where
-      at-end : leb 16 (s .free) ≡ true → i + find gone (drop i l) ≡ find gone l → s .free ≡ find gone l
+      at-end : leb 16 (s .free) ≡ true → i + find dead (drop i l) ≡ find dead l → s .free ≡ find dead l
       at-end y f =
-          let z : find gone (drop i l) ≡ 0 = rw (drop-of-length-le l h) in
+          let z : find dead (drop i l) ≡ 0 = rw (drop-of-length-le l h) in
           omega (arith, leb-true 16 (s .free) y, was .most)
 
       pub walk-ends : Ended s
-      unfolding heldIn
+      unfolding heldAll
       walk-ends =
           record {
             ok = sym (and-true (s .ok)) ∙ rw (all-end good l i h) at (was .ok);
@@ -191,9 +191,9 @@ module _ (c : Config) (clock time : ℕ) (l : List Entry) (named : Bool) where
 -- ---- the place
 
 -- the figure is the row's exactly if it is what the walk counted
-pub within-all : (t : Table) (ok named key all : Bool) (n : ℕ) → named ≡ key → ok ≡ (named && all) → n ≡ heldIn (t .entries) → (ok && eqb (t .held) n) ≡ (key && (all && figureOk t))
+pub within-all : (t : Table) (ok named key all : Bool) (n : ℕ) → named ≡ key → ok ≡ (named && all) → n ≡ heldAll (t .entries) → (ok && eqb (t .held) n) ≡ (key && (all && figureOk t))
 unfolding figureOk
-within-all t ok named key all n same is counted = rw (is, same, counted) (and-assoc key all (eqb (t .held) (heldIn (t .entries))))
+within-all t ok named key all n same is counted = rw (is, same, counted) (and-assoc key all (eqb (t .held) (heldAll (t .entries))))
 
 module _ (c : Config) (t : Table) (k : Name) (time : ℕ) where
   abbrev row : List Entry
@@ -248,22 +248,22 @@ module _ (c : Config) (t : Table) (k : Name) (time : ℕ) where
 
 -- ---- the sight
 
-pub sight-is : (c : Config) (time : ℕ) (t : Table) (p q : Place) (r : ℕ) (freed : Bool) (kept gone own : ℕ) → p ≡ q → r ≡ indexOf p → r < 16 → length (t .entries) ≡ 16
-    → freed ≡ not (all (unexpired (c .lifetime) time) (t .entries)) → kept ≡ gone + heldIn (map (swept (c .lifetime) time) (t .entries))
+pub sight-is : (c : Config) (time : ℕ) (t : Table) (p q : Place) (r : ℕ) (freed : Bool) (bytes gone own : ℕ) → p ≡ q → r ≡ indexOf p → r < 16 → length (t .entries) ≡ 16
+    → freed ≡ not (all (unexpired (c .lifetime) time) (t .entries)) → bytes ≡ gone + heldAll (map (swept (c .lifetime) time) (t .entries))
     → own ≡ heldBy (swept (c .lifetime) time (getD (t .entries) r nil))
-    → _≡_ {A = Sight} (record { clock = t .clock; held = t .held; place = p; at = r; entry = getD (t .entries) r nil; freed = freed; others = kept - gone - own }) (sightAt c time t q)
+    → _≡_ {A = Sight} (record { clock = t .clock; held = t .held; place = p; at = r; entry = getD (t .entries) r nil; freed = freed; others = bytes - gone - own }) (sightAt c time t q)
 unfolding sightAt sweep
-sight-is c time t p q r freed kept gone own is-place is-index below sixteen is-freed is-kept is-own =
+sight-is c time t p q r freed bytes gone own is-place is-index below sixteen is-freed is-kept is-own =
     let index : r ≡ indexOf q = is-index ∙ ap (λ (z : Place). indexOf z) is-place in
     let entry : getD (t .entries) r nil ≡ at (t .entries) (indexOf q) = getD-any (t .entries) r nil unheld (omega arith) ∙ ap (at (t .entries)) index in
     let beside = is-own ∙ ap (λ (e : Entry). heldBy (swept (c .lifetime) time e)) entry in
-    let left : kept - gone ≡ heldIn (map (swept (c .lifetime) time) (t .entries)) = omega (arith, is-kept) in
+    let left : bytes - gone ≡ heldAll (map (swept (c .lifetime) time) (t .entries)) = omega (arith, is-kept) in
     λ k. record { clock = t .clock; held = t .held; place = is-place k; at = index k; entry = entry k; freed = is-freed k; others = left k - beside k }
 
 -- what the entry at an index holds is among what is kept
-pub beside-least : (l : List Entry) (r : ℕ) (lifetime time kept gone : ℕ) → r < length l → kept ≡ gone + heldIn (map (swept lifetime time) l)
-    → heldBy (swept lifetime time (getD l r nil)) ≤ kept - gone
+pub beside-least : (l : List Entry) (r : ℕ) (lifetime time bytes gone : ℕ) → r < length l → bytes ≡ gone + heldAll (map (swept lifetime time) l)
+    → heldBy (swept lifetime time (getD l r nil)) ≤ bytes - gone
 unfolding sweep
-beside-least l r lifetime time kept gone below is =
-    let left : kept - gone ≡ heldIn (map (swept lifetime time) l) = omega (arith, is) in
+beside-least l r lifetime time bytes gone below is =
+    let left : bytes - gone ≡ heldAll (map (swept lifetime time) l) = omega (arith, is) in
     rw (left, getD-any l r nil unheld below, ← at-sweep lifetime time l r) (held-at (sweep lifetime time l) r (rw (length-sweep lifetime time l) below))

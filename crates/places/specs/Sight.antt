@@ -68,9 +68,9 @@ seenNext c clock time s i e =
       gone = s .gone + (heldBy e - heldBy (swept (c .lifetime) time e));
     }
 
--- The key's place by the tags: `free` is the first entry that is not live, `first` the first with the key's own tag, and `held` says that this entry holds the key.
+-- The key's place by the tags: `free` is the first entry that is not live, `first` the first with the key's own tag, and `holds` says that this entry holds the key.
 abbrev pub quickPlace : Bool → ℕ → Bool → ℕ → Bool → Quick
-quickPlace ok free apart first held = cond ok (cond apart (Sure (standing (cond (ltb first 16 && held) first free))) TagsEqual) (Sure OffLimits)
+quickPlace ok free apart first holds = cond ok (cond apart (Sure (standing (cond (ltb first 16 && holds) first free))) TagsEqual) (Sure OffLimits)
 
 -- The place by a quick look, or, where it does not tell, this one.
 abbrev pub settled : Quick → Place → Place

@@ -119,8 +119,9 @@ fn see(seen: Seen, i: usize, e: Entry, config: Config, clock: u64, time: u64) ->
     ensures { λ r. ⌜ (r ≡ seenNext config clock time seen i e) × (sized e ≡ true) × (heldBy e < 17179869184) ⌝ }
 {
     let checked = entries::entry_checked(config, clock, e);
+    let bytes = checked.bytes;
     let ok = seen.ok & checked.ok;
-    let held = seen.held + checked.bytes;
+    let held = seen.held + bytes;
     if expiry::is_live(e.used, e.touched, config.lifetime, time) {
         return Seen {
             ok,
@@ -136,7 +137,7 @@ fn see(seen: Seen, i: usize, e: Entry, config: Config, clock: u64, time: u64) ->
             freed: true,
             free: first_free(seen.free, i),
             held,
-            gone: seen.gone + checked.bytes,
+            gone: seen.gone + bytes,
         };
     }
     Seen {
@@ -166,8 +167,8 @@ fn index_of(place: Place) -> usize
 
 // The key's place, by what is seen: whether all is within the limits, the first entry that is not live, whether the tags differ, where the key's own stands, and whether the
 // entry there holds it.
-fn quick_place(ok: bool, free: usize, apart: bool, first: usize, held: bool) -> Quick
-    ensures { λ r. ⌜ r ≡ quickPlace ok free apart first held ⌝ }
+fn quick_place(ok: bool, free: usize, apart: bool, first: usize, holds: bool) -> Quick
+    ensures { λ r. ⌜ r ≡ quickPlace ok free apart first holds ⌝ }
 {
     if !ok {
         return Quick::Sure(Place::OffLimits);
@@ -175,7 +176,7 @@ fn quick_place(ok: bool, free: usize, apart: bool, first: usize, held: bool) -> 
     if !apart {
         return Quick::TagsEqual;
     }
-    if (first < 16) & held {
+    if (first < 16) & holds {
         return Quick::Sure(Place::At(first));
     }
     Quick::Sure(standing(free))
@@ -220,9 +221,10 @@ pub fn look(config: Config, table: Table, time: u64, named: NamedKey) -> Sight
     let key = named.key;
     let first = find_tag(tags, named.tag);
     let own = entries[index(first)];
-    let held = key_place::holds_live(own, config.lifetime, time, key);
-    let ok = seen.ok & (figure == seen.held);
-    let place = match quick_place(ok, seen.free, tags::apart(tags), first, held) {
+    let holds = key_place::holds_live(own, config.lifetime, time, key);
+    let bytes = seen.held;
+    let ok = seen.ok & (figure == bytes);
+    let place = match quick_place(ok, seen.free, tags::apart(tags), first, holds) {
         Quick::Sure(place) => place,
         Quick::TagsEqual => close_place(entries, config.lifetime, time, key),
     };
@@ -235,6 +237,6 @@ pub fn look(config: Config, table: Table, time: u64, named: NamedKey) -> Sight
         at,
         entry,
         freed: seen.freed,
-        others: seen.held - seen.gone - kept_by(entry, config.lifetime, time),
+        others: bytes - seen.gone - kept_by(entry, config.lifetime, time),
     }
 }

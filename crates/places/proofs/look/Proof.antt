@@ -57,7 +57,7 @@ tags-turn c =
 -- what both walks come to
 module _ (c : tie.After-quick-place Inv-loop μ-loop Inv-loop2 μ-loop2) where
   abbrev asked : tie.After-holds-live Inv-loop μ-loop Inv-loop2 μ-loop2
-  asked = c .before .before .before .before
+  asked = c .before .before .before
 
   abbrev own : tie.After-index Inv-loop μ-loop Inv-loop2 μ-loop2
   own = asked .before .before
@@ -96,11 +96,11 @@ module _ (c : tie.After-quick-place Inv-loop μ-loop Inv-loop2 μ-loop2) where
       (own .index .ensures .0) (asked .holds-live .ensures) (c .before .apart .result) _ (c .before .apart .ensures) (c .quick-place .ensures)
 
 -- what is expired is among what is held
-expired-least : tie.Need-sub-t51 Inv-loop μ-loop Inv-loop2 μ-loop2
+expired-least : tie.Need-sub-t52 Inv-loop μ-loop Inv-loop2 μ-loop2
 expired-least c = omega (arith, seen (c .before .before .before .before) .kept)
 
 -- and what the key's entry holds is among what is left
-own-least : tie.Need-sub-t53 Inv-loop μ-loop Inv-loop2 μ-loop2
+own-least : tie.Need-sub-t54 Inv-loop μ-loop Inv-loop2 μ-loop2
 own-least c =
     let indexed = c .before .before .before in
     let quick = indexed .before .before in

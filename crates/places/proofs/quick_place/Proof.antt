@@ -18,7 +18,7 @@ tags-equal c =
 at-tag : tie.Need-returns-3
 at-tag c =
     let args = c .before .before .before .args in
-    let below : ltb (args .first) 16 ≡ true = and-left (ltb (args .first) 16) (args .held) (c .if3 .taken) in
+    let below : ltb (args .first) 16 ≡ true = and-left (ltb (args .first) 16) (args .holds) (c .if3 .taken) in
     rw (not-false (args .ok) (c .before .before .if1 .left), not-false (args .apart) (c .before .if2 .left), c .if3 .taken, below)
 
 at-free : tie.Need-returns-4

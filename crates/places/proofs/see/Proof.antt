@@ -10,7 +10,7 @@ use Rattle.places.proofs.see.Statement.{statement}
 use Rattle.places.proofs.see.Tie as tie
 
 abbrev checked-in : tie.After-is-live → tie.After-entry-checked
-checked-in c = c .before .before .before .before .before
+checked-in c = c .before .before .before .before
 
 lives : (c : tie.After-is-live) (b : Bool) → c .is-live .result ≡ b
     → let args = checked-in c .before .args in live (args .config .lifetime) (args .time) (args .e) ≡ b
@@ -28,7 +28,7 @@ is-live c =
 
 is-expired : tie.Need-returns-2
 is-expired c =
-    let free = c .before .before in
+    let free = c .before in
     let asked = free .before .before .before in
     let checked = checked-in asked in
     let found = checked .entry-checked .ensures in (
