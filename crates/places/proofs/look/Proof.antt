@@ -68,27 +68,30 @@ module _ (c : tie.After-quick-place Inv-loop μ-loop Inv-loop2 μ-loop2) where
   abbrev walk : tie.At-loop Inv-loop μ-loop Inv-loop2 μ-loop2
   walk = tagging .before .before
 
-  sixteen : length (walk .before .before .before .args .table .entries) ≡ 16
+  abbrev start : tie.Start Inv-loop μ-loop Inv-loop2 μ-loop2
+  start = walk .before .before .before
+
+  sixteen : length (start .args .table .entries) ≡ 16
   sixteen = walk .loop .inv .0
 
-  seen : let args = walk .before .before .before .args in Ended (args .config) (args .table .clock) (args .time) (args .table .entries) (args .named .ok) (walk .loop .seen)
+  seen : let args = start .args in Ended (args .config) (args .table .clock) (args .time) (args .table .entries) (args .named .ok) (walk .loop .seen)
   seen =
-      let ended : length (walk .before .before .before .args .table .entries) ≤ walk .loop .i = omega arith in
+      let ended : length (start .args .table .entries) ≤ walk .loop .i = omega arith in
       walk-ends _ _ _ _ _ (walk .loop .seen) (walk .loop .i) (walk .loop .inv .1 .1) ended (walk .loop .inv .1 .0) sixteen
 
-  tags : tagging .loop2 .tags ≡ tagsFrom 0 (walk .before .before .before .args .table .entries)
+  tags : tagging .loop2 .tags ≡ tagsFrom 0 (start .args .table .entries)
   tags =
       let j = tagging .loop2 .j in
       let given = tagging .loop2 .tags in
-      let entries = walk .before .before .before .args .table .entries in
+      let entries = start .args .table .entries in
       sym (take-all j given (omega arith)) ∙ tagging .loop2 .inv .1 .1 ∙ take-all j (tagsFrom 0 entries) (omega (arith, tags-length 0 entries, sixteen))
 
   -- the place that the tags tell, or, where two are equal, the one found byte by byte
-  there : let args = walk .before .before .before .args in let key = keyOf (args .named .key) in (k : Name) → args .named ≡ namedOf k
+  there : let args = start .args in let key = keyOf (args .named .key) in (k : Name) → args .named ≡ namedOf k
       → settled (c .quick-place .result) (cond (distinct (args .table .entries)) (placeOf key (sweep (args .config .lifetime) (args .time) (args .table .entries))) OffLimits)
       ≡ placeIn (args .config) (args .time) k (args .table)
   there k is =
-      let args = walk .before .before .before .args in
+      let args = start .args in
       let found = own .before .find-tag in
       let ok = within-all (args .table) _ _ _ _ _ (named-ok k (args .named) is) (seen .ok) (seen .held) in
       place-seen (args .config) (args .table) k (args .time) (keyOf (args .named .key)) _ (walk .loop .seen .free) (tagging .loop2 .tags) (args .named .tag)
@@ -104,7 +107,7 @@ own-least : tie.Need-sub-t54 Inv-loop μ-loop Inv-loop2 μ-loop2
 own-least c =
     let indexed = c .before .before .before in
     let quick = indexed .before .before in
-    let entries = walk quick .before .before .before .args .table .entries in
+    let entries = start quick .args .table .entries in
     rw (c .kept-by .ensures .0)
     (beside-least entries (indexed .index-of .result) _ _ _ _ (omega (arith, sixteen quick, indexed .index-of .ensures .1)) (seen quick .kept))
 
@@ -112,7 +115,7 @@ returns : tie.Need-returns Inv-loop μ-loop Inv-loop2 μ-loop2
 returns c =
     let indexed = c .before .before .before in
     let quick = indexed .before .before in
-    let args = walk quick .before .before .before .args in
+    let args = start quick .args in
     λ k is.
     let by-bytes = cond (distinct (args .table .entries)) (placeOf (keyOf (args .named .key)) (sweep (args .config .lifetime) (args .time) (args .table .entries))) OffLimits in
     let place =
