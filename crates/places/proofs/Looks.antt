@@ -33,7 +33,7 @@ use Rattle.places.specs.declared.Place.{Place}
 use Rattle.places.specs.declared.Quick.{Quick}
 use Rattle.places.specs.declared.Place.the-variants.{OffLimits}
 use Rattle.places.specs.Places.{standing, placeOf}
-use Rattle.places.specs.Sight.{placeIn, index, indexOf, sightAt, seenNext, quickPlace, settled}
+use Rattle.places.specs.Sight.{placeIn, index, indexOf, sightAt, nothingSeen, seenNext, quickPlace, settled}
 use Rattle.places.proofs.Cases.{each as within, off-each, by-bytes, by-own, by-none}
 
 and-assoc : (x y z : Bool) → ((x && y) && z) ≡ (x && (y && z))
@@ -124,9 +124,9 @@ module _ (c : Config) (clock time : ℕ) (l : List Entry) (named : Bool) where
     pub kept : s .held ≡ s .gone + heldAll (map left l)
     pub few : s .held < 2 ^ 60
 
-  pub walk-starts : Walked (record { ok = named; freed = false; free = 16; held = 0; gone = 0 }) 0
-  walk-starts =
-      record {
+  pub walk-starts : (s : Seen) → s ≡ nothingSeen named → Walked s 0
+  walk-starts s is =
+      rw is (record {
         ok = refl;
         freed = refl;
         free = omega arith;
@@ -136,7 +136,7 @@ module _ (c : Config) (clock time : ℕ) (l : List Entry) (named : Bool) where
         kept = omega arith;
         held-most = omega arith;
         gone-most = omega arith;
-      }
+      })
 
   module _ (s : Seen) (i : ℕ) (was : Walked s i) where
     module _ (h : i < length l) (sixteen : length l ≡ 16) where

@@ -1,6 +1,6 @@
 -- What a call sees of the table, and how the code gets to see it. No contract of the handler's two calls, nor of an export, cites this.
 use Prim.Native.Nat.{ℕ, _+_, _-_, _^_, _<_}
-use mathlib.Core.Bool.{Bool, true, cond, not, _&&_, _||_}
+use mathlib.Core.Bool.{Bool, true, false, cond, not, _&&_, _||_}
 use mathlib.Core.List.{List}
 use mathlib.Core.Path.{_≡_}
 use lib.ListN.{length}
@@ -56,6 +56,10 @@ sightAt c time t p =
 -- The sight of the table for a call with this key; and what the types give of a row: sixteen entries, 64 key bytes in each free one, and a bound to what they hold.
 abbrev pub Sees : Config → ℕ → Name → Table → Sight → Type 0
 Sees c time k t s = (s ≡ sightAt c time t (placeIn c time k t)) × (length (t .entries) ≡ 16) × (all sized (t .entries) ≡ true) × (s .others < 2 ^ 60)
+
+-- What is seen before any entry is looked at; `ok` says that the key is within its limits.
+abbrev pub nothingSeen : Bool → Seen
+nothingSeen ok = record { ok = ok; freed = false; free = 16; held = 0; gone = 0 }
 
 -- What is seen once entry i is looked at.
 abbrev pub seenNext : Config → ℕ → ℕ → Seen → ℕ → Entry → Seen

@@ -5,7 +5,7 @@ use entries::Entry;
 use keys::Key;
 use keys::NamedKey;
 ghost use mathlib.Core.Path.{_≡_};
-ghost use mathlib.Core.Bool.{true, cond};
+ghost use mathlib.Core.Bool.{true, cond, _&&_};
 ghost use Prim.Native.Nat.{_^_, _<_};
 ghost use lib.ListN.{length};
 ghost use lib.Dec.{leb, eqb};
@@ -16,7 +16,7 @@ ghost use Rattle.entries.specs.Held.{heldBy};
 ghost use Rattle.block_table.specs.Table.{distinct};
 ghost use Rattle.places.specs.declared.Place.the-variants.{OffLimits};
 ghost use Rattle.places.specs.Places.{standing, placeOf};
-ghost use Rattle.places.specs.Sight.{index, indexOf, Sees, seenNext, quickPlace};
+ghost use Rattle.places.specs.Sight.{index, indexOf, Sees, nothingSeen, seenNext, quickPlace};
 ghost use Rattle.entries.specs.Quick.{sized};
 
 // The place of a key in the row that a sweep would leave.
@@ -94,6 +94,27 @@ fn find_tag(row: [u32; 16], own: u32) -> usize
         i += 1;
     }
     16
+}
+
+// What is seen before any entry is looked at, of a table for a key that is within its limits or not.
+fn nothing_seen(ok: bool) -> Seen
+    ensures { λ r. ⌜ r ≡ nothingSeen ok ⌝ }
+{
+    Seen {
+        ok,
+        freed: false,
+        free: 16,
+        held: 0,
+        gone: 0,
+    }
+}
+
+// All that is seen is within its limits, and the figure is what was counted.
+fn within(seen: Seen, figure: u64) -> bool
+    ensures { λ r. ⌜ r ≡ (seen .ok && eqb figure (seen .held)) ⌝ }
+{
+    let bytes = seen.held;
+    seen.ok & (figure == bytes)
 }
 
 // What an entry holds that a sweep keeps.
@@ -198,13 +219,7 @@ pub fn look(config: Config, table: Table, time: u64, named: NamedKey) -> Sight
     let n = count(entries);
     let clock = table.clock;
     let figure = table.held;
-    let mut seen = Seen {
-        ok: named.ok,
-        freed: false,
-        free: 16,
-        held: 0,
-        gone: 0,
-    };
+    let mut seen = nothing_seen(named.ok);
     let mut i = 0;
     while i < n {
         let e = entries[i];
@@ -222,8 +237,7 @@ pub fn look(config: Config, table: Table, time: u64, named: NamedKey) -> Sight
     let first = find_tag(tags, named.tag);
     let own = entries[index(first)];
     let holds = key_place::holds_live(own, config.lifetime, time, key);
-    let bytes = seen.held;
-    let ok = seen.ok & (figure == bytes);
+    let ok = within(seen, figure);
     let place = match quick_place(ok, seen.free, tags::apart(tags), first, holds) {
         Quick::Sure(place) => place,
         Quick::TagsEqual => close_place(entries, config.lifetime, time, key),
@@ -237,6 +251,6 @@ pub fn look(config: Config, table: Table, time: u64, named: NamedKey) -> Sight
         at,
         entry,
         freed: seen.freed,
-        others: bytes - seen.gone - kept_by(entry, config.lifetime, time),
+        others: seen.held - seen.gone - kept_by(entry, config.lifetime, time),
     }
 }

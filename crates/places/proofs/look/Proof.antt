@@ -34,12 +34,12 @@ abbrev μ-loop2 : tie.MeasureT-loop2
 μ-loop2 config time named entries n clock figure seen i tags₀ j₀ tags j = 16 - j
 
 walk-begins : tie.Need-loop-holds Inv-loop μ-loop Inv-loop2 μ-loop2
-walk-begins c = (search needs, (search needs, walk-starts _ _ _ _ _))
+walk-begins c = (search needs, (search needs, walk-starts _ _ _ _ _ _ (c .nothing-seen .ensures)))
 
 walk-turns : tie.Need-loop-again Inv-loop μ-loop Inv-loop2 μ-loop2
 walk-turns c =
     let walk = c .before .before .before in
-    let args = walk .before .before .before .args in
+    let args = walk .before .before .before .before .args in
     let walked =
     walk-goes (args .config) (args .table .clock) (args .time) (args .table .entries) _ (walk .loop .seen) (walk .loop .i) (walk .loop .inv .1 .1) (omega arith)
     (walk .loop .inv .0) _ (c .see .ensures .0) (c .see .ensures .1) (c .see .ensures .2) in
@@ -48,7 +48,7 @@ walk-turns c =
 tags-turn : tie.Need-loop2-again Inv-loop μ-loop Inv-loop2 μ-loop2
 tags-turn c =
     let tagging = c .before .before .before .before in
-    let args = tagging .before .before .before .before .before .args in
+    let args = tagging .before .before .before .before .before .before .args in
     let go =
     tags-go (args .table .entries) (tagging .loop2 .tags) (tagging .loop2 .j) _ nil (omega arith) (omega arith) (c .tag .ensures ∙ rw (c .before .narrow .ensures))
     (tagging .loop2 .inv .1 .1) in
@@ -69,7 +69,7 @@ module _ (c : tie.After-quick-place Inv-loop μ-loop Inv-loop2 μ-loop2) where
   walk = tagging .before .before
 
   abbrev start : tie.Start Inv-loop μ-loop Inv-loop2 μ-loop2
-  start = walk .before .before .before
+  start = walk .before .before .before .before
 
   sixteen : length (start .args .table .entries) ≡ 16
   sixteen = walk .loop .inv .0
@@ -93,17 +93,17 @@ module _ (c : tie.After-quick-place Inv-loop μ-loop Inv-loop2 μ-loop2) where
   there k is =
       let args = start .args in
       let found = own .before .find-tag in
-      let ok = within-all (args .table) _ _ _ _ _ (named-ok k (args .named) is) (seen .ok) (seen .held) in
+      let ok = c .before .before .within .ensures ∙ within-all (args .table) _ _ _ _ _ (named-ok k (args .named) is) (seen .ok) (seen .held) in
       place-seen (args .config) (args .table) k (args .time) (keyOf (args .named .key)) _ (walk .loop .seen .free) (tagging .loop2 .tags) (args .named .tag)
       (found .result) _ sixteen ok (seen .free) (named-read k (args .named) is) (named-tag k (args .named) is) tags (found .ensures) (own .index .result)
       (own .index .ensures .0) (asked .holds-live .ensures) (c .before .apart .result) _ (c .before .apart .ensures) (c .quick-place .ensures)
 
 -- what is expired is among what is held
-expired-least : tie.Need-sub-t52 Inv-loop μ-loop Inv-loop2 μ-loop2
+expired-least : tie.Need-sub-t51 Inv-loop μ-loop Inv-loop2 μ-loop2
 expired-least c = omega (arith, seen (c .before .before .before .before) .kept)
 
 -- and what the key's entry holds is among what is left
-own-least : tie.Need-sub-t54 Inv-loop μ-loop Inv-loop2 μ-loop2
+own-least : tie.Need-sub-t53 Inv-loop μ-loop Inv-loop2 μ-loop2
 own-least c =
     let indexed = c .before .before .before in
     let quick = indexed .before .before in
@@ -134,9 +134,9 @@ pub look-spec : {M : Type 1} → statement M
 look-spec =
     tie.close
     (tie.spec
-    Inv-loop μ-loop Inv-loop2 μ-loop2 (λ c κs. search needs) walk-begins (λ c. search needs) (λ c. search needs) (λ c κs. search needs)
+    Inv-loop μ-loop Inv-loop2 μ-loop2 (λ c κs. search needs) (λ c κs. search needs) walk-begins (λ c. search needs) (λ c. search needs) (λ c κs. search needs)
     (λ c. search needs) (λ c. search needs) walk-turns (λ c. (search needs, (search needs, refl))) (λ c. search needs) (λ c. search needs)
     (λ c κs. search needs) (λ c κs. search needs) (λ c. search needs) (λ c. search needs) (λ c. search needs) (λ c. search needs) tags-turn
-    (λ c κs. search needs) (λ c κs. search needs) (λ c. search needs) (λ c. search needs) (λ c κs. search needs) (λ c κs. search needs)
+    (λ c κs. search needs) (λ c κs. search needs) (λ c. search needs) (λ c. search needs) (λ c κs. search needs) (λ c κs. search needs) (λ c κs. search needs)
     (λ c κs. search needs) (λ c. search needs) (λ c. search needs) (λ c κs. search needs) (λ c κs. search needs) (λ c. search needs)
     (λ c. search needs) expired-least (λ c κs. search needs) own-least returns)
