@@ -29,7 +29,7 @@ tableOk c t = all (entryOk c (t .clock)) (t .entries) && figureOk t && distinct 
 abbrev pub at : List Entry → ℕ → Entry
 at l i = getD l i free
 
--- The table with this clock and this row, and with the figure that a walk over the row gives: a fresh table and those that calls leave are made here.
+-- The table with this clock and this row, and with the figure that a walk over the row gives: a fresh table and those that calls change are made here.
 abbrev pub tableOf : ℕ → List Entry → Table
 tableOf clock row = record { clock = clock; held = held row; entries = row }
 

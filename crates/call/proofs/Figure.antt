@@ -26,6 +26,6 @@ figure-kept c w q counted =
     placed (request r) = refl
     placed (response r) = refl
 
--- so it is of every table within the limits, whatever the call
+-- so does any call on a table within the limits
 pub figure-within : (c : Config) (w : World) (q : Call) → tableOk c (w .table) ≡ true → Counted (call c w q .world .table)
 figure-within c w q ok = figure-kept c w q (table-fits c (w .table) ok .figure)

@@ -38,7 +38,7 @@ heldCases =
     ∷ asks 4 1 20 (some (0x10 ∷ [])) none 4 ∷ asks 5 1 20 (some (0x08 ∷ [])) none 16
     -- Key 3: 40 bytes are cached, and 16 are taken; then the body is complete, and the chunk asked for is past the end (refusal 8).
     ∷ sends 6 3 0 40 ∷ asks 7 3 20 (some (0x08 ∷ [])) none 16 ∷ asks 8 3 20 (some (0x10 ∷ [])) (some (0x90 ∷ [])) 4
-    -- A call before the clock (refusal 2). At 105 keys 1 and 2 are expired, and a call that gets refusal 4 frees them; at 300 key 3 is.
+    -- A call before the clock (refusal 2). At 105 keys 1 and 2 are expired, and a call that gets refusal 4 frees them; at 300 key 3 is expired too, and key 4's request frees it.
     ∷ asks 7 1 20 none none 0 ∷ asks 105 3 60 none none 0 ∷ asks 300 4 20 none none 0
     ∷ []))
     (16 ∷ 58 ∷ 50 ∷ 16 ∷ 0 ∷ 16 ∷ 56 ∷ 72 ∷ 56 ∷ 56 ∷ 40 ∷ 0 ∷ [])

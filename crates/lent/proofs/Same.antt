@@ -55,8 +55,8 @@ module _ (c : Config) (w : World) (time i : ℕ) where
   same-call row e (request r) h = rw (with-room _ time e (up c w i) _ h)
   same-call row e (response r) h = rw (with-room _ time e (down c w i) _ h)
 
-  -- The row has no figure of its own. A caller that keeps a table puts this one beside it: what the row holds that the walk left, less what stood at the place, and what the entry holds
-  -- that comes back.
+  -- The row has no figure of its own. A caller that keeps a table puts this one beside it: what the row holds that the walk left, less what stood at the place, plus what the entry
+  -- that comes back holds.
   pub put-figure : (row : List Entry) (x : What) (g : Lent) → i < length row → putBack row x g .table .held ≡ (held row - heldBy (at row i)) + heldBy (g .entry)
   put-figure row (request r) g below = held-set row i (g .entry) below
   put-figure row (response r) g below = held-set row i (g .entry) below

@@ -53,7 +53,7 @@ sightAt c time t p =
       others = heldBeside (c .lifetime) time (t .entries) (indexOf p);
     }
 
--- The sight of the table for a call with this key; and what the types give of a row: sixteen entries, 64 key bytes in each free one, and a bound to what they hold.
+-- The sight of the table for a call with this key; and what the types give of a row: sixteen entries, 64 key bytes in each free one, and a bound on what the others hold.
 abbrev pub Sees : Config → ℕ → Name → Table → Sight → Type 0
 Sees c time k t s = (s ≡ sightAt c time t (placeIn c time k t)) × (length (t .entries) ≡ 16) × (all sized (t .entries) ≡ true) × (s .others < 2 ^ 60)
 

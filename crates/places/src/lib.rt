@@ -96,7 +96,7 @@ fn find_tag(row: [u32; 16], own: u32) -> usize
     16
 }
 
-// What is seen before any entry is looked at, of a table for a key that is within its limits or not.
+// What is seen before any entry is looked at; `ok` says whether the key is within its limits.
 fn nothing_seen(ok: bool) -> Seen
     ensures { λ r. ⌜ r ≡ nothingSeen ok ⌝ }
 {

@@ -44,7 +44,7 @@ pub fn opened_entry(config: Config, sight: Sight, time: u64, key: Key) -> Entry
     entries::start_from(entries::swept_entry(old, config.lifetime, time), key)
 }
 
-// What a step on the entry at i leaves: the entry is in use for its key, and touched now. What it holds comes in, and what stood there before is not among the others'.
+// What a step on the entry at i leaves: the entry is in use for its key, and touched now. The figure is what the others hold and what this entry holds now.
 pub fn leave(sight: Sight, i: usize, time: u64, key: Key, step: Stepped) -> Change
     requires { ⌜ sight .others < 2 ^ 60 ⌝ }
     ensures { λ r. ⌜ r ≡ changeTo sight i time key step ⌝ }

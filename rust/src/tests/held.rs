@@ -42,7 +42,7 @@ fn the_most() {
     }
 }
 
-/// All keys but one expire. They count until a call frees them, and a refused one does.
+/// All keys but one expire. They count until a call frees them: one with refusal 4 does, one with refusal 1 does not.
 #[test]
 fn expired() {
     let mut handler = full(64, 16, b"head");
