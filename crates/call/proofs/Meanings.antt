@@ -31,7 +31,6 @@ use Rattle.entries.specs.Held.{heldBy, held}
 use Rattle.block_table.specs.Table.{at}
 use Rattle.block_table.proofs.Row.{length-sweep, at-sweep}
 use Rattle.block_table.proofs.Changed.{with-figure}
-use Rattle.places.specs.declared.Place.the-variants.{At}
 use Rattle.places.specs.declared.Sight.{Sight}
 use Rattle.key_place.specs.Place.{place}
 use Rattle.places.specs.Places.{opened}

@@ -33,4 +33,4 @@ edge-cases = (refl, (refl, (refl, (refl, (refl, (refl, (refl, (refl, (refl, (ref
 
 pub held-cases : AllSay heldCases
 unfolding calls
-held-cases = (refl, tt)
+held-cases = (refl, (refl, (refl, (refl, tt))))

@@ -1,8 +1,7 @@
 -- The laws that the code's branches use, by their cases. Assumes nothing.
-use mathlib.Core.Path.{_≡_, refl, sym, ap, _∙_}
+use mathlib.Core.Path.{_≡_, refl, sym, _∙_}
 use mathlib.Core.Bool.{Bool, true, false, not, cond, _&&_, _||_}
-use Prim.Native.Nat.{ℕ, _-_}
-use lib.Dec.{ltb}
+use Prim.Native.Nat.{ℕ}
 use borrow.Author.Tests.{eqb-true}
 use Rattle.config.specs.declared.Config.{Config}
 use Rattle.block_state.specs.declared.BlockState.{BlockState}
@@ -32,15 +31,15 @@ module _ (lifetime time : ℕ) (k : Name) (e : Entry) where
   unfolding holdsLive
   held-as b h s = rw (h, s)
 
+pub or-true : (b : Bool) → (b || true) ≡ true
+or-true true = refl
+or-true false = refl
+
 -- an entry is live, or free, or else expired
 module _ (lifetime time : ℕ) (e : Entry) where
   pub live-unexpired : live lifetime time e ≡ true → unexpired lifetime time e ≡ true
   unfolding unexpired
   live-unexpired h = rw h (or-true (unused e))
-    where
-      or-true : (b : Bool) → (b || true) ≡ true
-      or-true true = refl
-      or-true false = refl
 
   pub free-unexpired : e .used ≡ false → unexpired lifetime time e ≡ true
   unfolding unexpired

@@ -1,7 +1,7 @@
 -- Laws of the bytes held: of one entry, and of a row in which one entry is put in its place. Assumes nothing.
 use Prim.Native.Nat.{ℕ, zero, suc, _+_, _-_, _*_, _≤_, _<_}
 use mathlib.Core.Bool.{Bool, true, false, cond}
-use mathlib.Core.Path.{_≡_, refl, sym, _∙_}
+use mathlib.Core.Path.{_≡_, refl}
 use mathlib.Core.List.{List, [], _∷_}
 use native.Mathlib.Omega.{arith}
 use lib.ListN.{length, getD, set}
@@ -13,10 +13,10 @@ use Rattle.block_state.specs.State.{cachedOk}
 use Rattle.block_state.proofs.Fits.{assembled-most}
 use Rattle.keys.specs.Lists.{all}
 use Rattle.entries.specs.declared.Entry.{Entry}
-use Rattle.entries.specs.Entries.{free, startFrom, entryOk, live, swept}
+use Rattle.entries.specs.Entries.{free, entryOk, live, swept}
 use Rattle.block_state.specs.Held.{heldIn, heldOf}
 use Rattle.entries.specs.Held.{heldBy, held}
-use Rattle.entries.proofs.Entries.{EntryFits, entry-fits, swept-live, swept-dead}
+use Rattle.entries.proofs.Entries.{entry-fits, swept-live, swept-dead}
 
 -- ---- of one entry
 

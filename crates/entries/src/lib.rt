@@ -8,11 +8,10 @@ use keys::Key;
 use state_limits::Checked;
 ghost use mathlib.Core.Path.{_≡_};
 ghost use mathlib.Core.Bool.{true, false};
-ghost use Prim.Native.Nat.{_≤_, _<_};
+ghost use Prim.Native.Nat.{_^_, _<_};
 ghost use Rattle.block_state.specs.State.{nothing};
 ghost use Rattle.keys.specs.Keys.{keySized};
 ghost use Rattle.entries.specs.Entries.{free, startFrom, entryOk, clash, swept};
-ghost use Rattle.block_state.specs.Held.{heldIn};
 ghost use Rattle.entries.specs.Held.{heldBy};
 ghost use Rattle.entries.specs.Quick.{tagOf, sized};
 
@@ -28,7 +27,7 @@ pub struct Entry {
 
 fn used_checked(config: Config, clock: u64, e: Entry) -> Checked
     requires { ⌜ e .used ≡ true ⌝ }
-    ensures { λ r. ⌜ (r .ok ≡ entryOk config clock e) × (r .bytes ≡ heldBy e) × (r .bytes < 17179869184) ⌝ }
+    ensures { λ r. ⌜ (r .ok ≡ entryOk config clock e) × (r .bytes ≡ heldBy e) × (r .bytes < 2 ^ 34) ⌝ }
 {
     let key = e.key;
     let state = e.state;
@@ -50,7 +49,7 @@ fn free_ok(config: Config, clock: u64, e: Entry) -> bool
 
 // Whether an entry is within its limits, and what it holds.
 pub fn entry_checked(config: Config, clock: u64, e: Entry) -> Checked
-    ensures { λ r. ⌜ (r .ok ≡ entryOk config clock e) × (r .bytes ≡ heldBy e) × (r .bytes < 17179869184) × (sized e ≡ true) ⌝ }
+    ensures { λ r. ⌜ (r .ok ≡ entryOk config clock e) × (r .bytes ≡ heldBy e) × (r .bytes < 2 ^ 34) × (sized e ≡ true) ⌝ }
 {
     if e.used {
         return used_checked(config, clock, e);
@@ -88,22 +87,13 @@ pub fn clashes(e: Entry, f: Entry) -> bool
 
 // ---- The bytes held
 
-fn held_in(cached: Cached) -> u64
-    ensures { λ r. ⌜ (r ≡ heldIn cached) × (r ≤ 4294967550) ⌝ }
-{
-    if cached.held {
-        return wide::u64_of_u8(cached.head) + wide::u64_of_u32(cached.payload);
-    }
-    0
-}
-
 // What an entry holds, which is below 2^34 even off its limits.
 pub fn held_by(e: Entry) -> u64
-    ensures { λ r. ⌜ (r ≡ heldBy e) × (r < 17179869184) ⌝ }
+    ensures { λ r. ⌜ (r ≡ heldBy e) × (r < 2 ^ 34) ⌝ }
 {
     if e.used {
-        let cached = e.state.cached;
-        return wide::u64_of_u32(e.state.assembled.len) + held_in(cached);
+        let state = e.state;
+        return state_limits::held_of(state);
     }
     0
 }

@@ -9,7 +9,7 @@ use lib.Dec.{leb, ltb}
 use borrow.Author.Tests.{ltb-false, leb-true, leb-false, eqb-true, lt-ltb, le-ltb}
 use Rattle.pieces.proofs.Memory.{piece-order}
 use Rattle.config.specs.declared.Config.{Config}
-use Rattle.pieces.proofs.Tests.{ands, and-left, by-cases}
+use Rattle.pieces.proofs.Tests.{ands, by-cases}
 use Rattle.block_state.proofs.Fits.{assembled-most}
 use Rattle.block_table.specs.declared.Table.{Table}
 use Rattle.keys.specs.Keys.{Name, keyOk}

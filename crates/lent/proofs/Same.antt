@@ -36,7 +36,7 @@ module _ (c : Config) (w : World) (i : ℕ) where
   abbrev down : List ℕ
   down = pieceOf (c .response) i (w .response)
 
--- What a caller does with entry e of a row, for place i: it lends the entry and its piece to the call, and puts both back with the clock.
+-- What a caller does with entry e of a row, for place i: it lends the entry and its piece to the call, and puts both back, with the clock and the figure.
 module _ (c : Config) (w : World) (time i : ℕ) where
   abbrev roomAt : Entry → What → Bool
   roomAt e (request r) = requestRoom c (i * c .upload) (i * c .response) time e (length (up c w i))

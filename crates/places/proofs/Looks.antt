@@ -20,7 +20,7 @@ use Rattle.entries.specs.Held.{heldBy, held as heldAll}
 use Rattle.entries.proofs.Held.{held-unused, free-holds, swept-holds, held-at}
 use Rattle.entries.specs.Quick.{holdsLive, notLive, sized, unexpired}
 use Rattle.entries.proofs.Entries.{swept-live, swept-dead}
-use Rattle.entries.proofs.Cases.{live-unexpired, free-unexpired, expired}
+use Rattle.entries.proofs.Cases.{or-true, live-unexpired, free-unexpired, expired}
 use Rattle.block_table.specs.declared.Table.{Table}
 use Rattle.block_table.specs.Table.{distinct, figureOk, at}
 use Rattle.block_table.specs.Quick.{tagsFrom}
@@ -52,40 +52,36 @@ or-false : (x : Bool) → (x || false) ≡ x
 or-false true = refl
 or-false false = refl
 
-or-true : (x : Bool) → (x || true) ≡ true
-or-true true = refl
-or-true false = refl
-
 -- what one turn makes of what was seen, by what the code tests: the entry is live, expired or free
 module _ (c : Config) (clock time : ℕ) (s : Seen) (i : ℕ) (e : Entry) (ok : Bool) (n : ℕ) (is-ok : ok ≡ entryOk c clock e) (is-held : n ≡ heldBy e) where
   abbrev lives : Bool
   lives = live (c .lifetime) time e
 
   pub seen-live : lives ≡ true
-      → _≡_ {A = Seen} (record { ok = s .ok && ok; freed = s .freed; free = s .free; held = s .held + n; gone = s .gone }) (seenNext c clock time s i e)
+      → _≡_ {A = Seen} (record { ok = s .ok && ok; freed = s .freed; free = s .free; counted = s .counted + n; gone = s .gone }) (seenNext c clock time s i e)
   seen-live y =
       let freed : s .freed ≡ (s .freed || not (unexpired (c .lifetime) time e)) = rw (live-unexpired (c .lifetime) time e y, or-false (s .freed)) in
       let free : s .free ≡ cond (leb 16 (s .free) && not lives) i (s .free) = rw (y, and-false) in
       let gone : s .gone ≡ s .gone + (heldBy e - heldBy (swept (c .lifetime) time e)) = rw (swept-live (c .lifetime) time e y) (omega arith) in
-      λ k. record { ok = s .ok && is-ok k; freed = freed k; free = free k; held = s .held + is-held k; gone = gone k }
+      λ k. record { ok = s .ok && is-ok k; freed = freed k; free = free k; counted = s .counted + is-held k; gone = gone k }
 
   module _ (r : ℕ) (dead : lives ≡ false) (is-free : r ≡ cond (leb 16 (s .free)) i (s .free)) where
     first : r ≡ cond (leb 16 (s .free) && not lives) i (s .free)
     first = is-free ∙ rw (dead, and-true (leb 16 (s .free)))
 
     pub seen-expired : e .used ≡ true
-        → _≡_ {A = Seen} (record { ok = s .ok && ok; freed = true; free = r; held = s .held + n; gone = s .gone + n }) (seenNext c clock time s i e)
+        → _≡_ {A = Seen} (record { ok = s .ok && ok; freed = true; free = r; counted = s .counted + n; gone = s .gone + n }) (seenNext c clock time s i e)
     seen-expired u =
         let freed : true ≡ (s .freed || not (unexpired (c .lifetime) time e)) = rw (expired (c .lifetime) time e u dead, or-true (s .freed)) in
         let gone : s .gone + n ≡ s .gone + (heldBy e - heldBy (swept (c .lifetime) time e)) = rw (is-held, swept-dead (c .lifetime) time e dead, free-holds) (omega arith) in
-        λ k. record { ok = s .ok && is-ok k; freed = freed k; free = first k; held = s .held + is-held k; gone = gone k }
+        λ k. record { ok = s .ok && is-ok k; freed = freed k; free = first k; counted = s .counted + is-held k; gone = gone k }
 
     pub seen-free : e .used ≡ false
-        → _≡_ {A = Seen} (record { ok = s .ok && ok; freed = s .freed; free = r; held = s .held + n; gone = s .gone }) (seenNext c clock time s i e)
+        → _≡_ {A = Seen} (record { ok = s .ok && ok; freed = s .freed; free = r; counted = s .counted + n; gone = s .gone }) (seenNext c clock time s i e)
     seen-free u =
         let freed : s .freed ≡ (s .freed || not (unexpired (c .lifetime) time e)) = rw (free-unexpired (c .lifetime) time e u, or-false (s .freed)) in
         let gone : s .gone ≡ s .gone + (heldBy e - heldBy (swept (c .lifetime) time e)) = rw (held-unused e u) (omega arith) in
-        λ k. record { ok = s .ok && is-ok k; freed = freed k; free = first k; held = s .held + is-held k; gone = gone k }
+        λ k. record { ok = s .ok && is-ok k; freed = freed k; free = first k; counted = s .counted + is-held k; gone = gone k }
 
 -- ---- the walk
 
@@ -109,10 +105,10 @@ module _ (c : Config) (clock time : ℕ) (l : List Entry) (named : Bool) where
     pub free : cond (leb 16 (s .free)) (i + find dead (drop i l)) (s .free) ≡ find dead l
     pub most : s .free ≤ 16
     pub long : all sized (drop i l) ≡ all sized l
-    pub held : s .held + heldAll (drop i l) ≡ heldAll l
-    pub kept : s .held + heldAll (map left (drop i l)) ≡ s .gone + heldAll (map left l)
-    pub held-most : s .held ≤ i * 17179869184
-    pub gone-most : s .gone ≤ i * 17179869184
+    pub counted : s .counted + heldAll (drop i l) ≡ heldAll l
+    pub kept : s .counted + heldAll (map left (drop i l)) ≡ s .gone + heldAll (map left l)
+    pub counted-most : s .counted ≤ i * 2 ^ 34
+    pub gone-most : s .gone ≤ i * 2 ^ 34
 
   -- what is seen of them all
   pub record Ended (s : Seen) : Type 0 where
@@ -120,9 +116,9 @@ module _ (c : Config) (clock time : ℕ) (l : List Entry) (named : Bool) where
     pub freed : s .freed ≡ not (all fresh l)
     pub free : s .free ≡ find dead l
     pub long : all sized l ≡ true
-    pub held : s .held ≡ heldAll l
-    pub kept : s .held ≡ s .gone + heldAll (map left l)
-    pub few : s .held < 2 ^ 60
+    pub counted : s .counted ≡ heldAll l
+    pub kept : s .counted ≡ s .gone + heldAll (map left l)
+    pub few : s .counted < 2 ^ 60
 
   pub walk-starts : (s : Seen) → s ≡ nothingSeen named → Walked s 0
   walk-starts s is =
@@ -132,9 +128,9 @@ module _ (c : Config) (clock time : ℕ) (l : List Entry) (named : Bool) where
         free = omega arith;
         most = omega arith;
         long = refl;
-        held = omega arith;
+        counted = omega arith;
         kept = omega arith;
-        held-most = omega arith;
+        counted-most = omega arith;
         gone-most = omega arith;
       })
 
@@ -152,7 +148,7 @@ module _ (c : Config) (clock time : ℕ) (l : List Entry) (named : Bool) where
       lower true = omega arith
       lower false = was .most
 
-      pub walk-goes : (n : Seen) → n ≡ seenNext c clock time s i e → sized e ≡ true → heldBy e < 17179869184 → Walked n (i + 1)
+      pub walk-goes : (n : Seen) → n ≡ seenNext c clock time s i e → sized e ≡ true → heldBy e < 2 ^ 34 → Walked n (i + 1)
       unfolding heldAll
       walk-goes n is z few =
           rw is (record {
@@ -161,11 +157,11 @@ module _ (c : Config) (clock time : ℕ) (l : List Entry) (named : Bool) where
             free = still (leb 16 (s .free)) refl (dead e) refl;
             most = lower (leb 16 (s .free) && dead e);
             long = all-go sized l i nil h z ∙ was .long;
-            held = add-assoc (s .held) (heldBy e) (heldAll (drop (i + 1) l)) ∙ rw (drop-step l i nil h) at (was .held);
+            counted = add-assoc (s .counted) (heldBy e) (heldAll (drop (i + 1) l)) ∙ rw (drop-step l i nil h) at (was .counted);
             kept =
-                let was-kept : s .held + (heldBy (left e) + heldAll (map left (drop (i + 1) l))) ≡ s .gone + heldAll (map left l) = rw (drop-step l i nil h) at (was .kept) in
+                let was-kept : s .counted + (heldBy (left e) + heldAll (map left (drop (i + 1) l))) ≡ s .gone + heldAll (map left l) = rw (drop-step l i nil h) at (was .kept) in
                 omega (arith, was-kept, swept-holds (c .lifetime) time e);
-            held-most = omega (arith, was .held-most, few);
+            counted-most = omega (arith, was .counted-most, few);
             gone-most = omega (arith, was .gone-most, few);
           })
 
@@ -183,9 +179,9 @@ module _ (c : Config) (clock time : ℕ) (l : List Entry) (named : Bool) where
             freed = freed-end fresh l i (s .freed) (not (all fresh l)) h (was .freed);
             free = by-cases (leb 16 (s .free)) (λ y. at-end y (rw y at (was .free))) (λ n. rw n at (was .free));
             long = sym (was .long) ∙ all-end sized l i h;
-            held = sym (add-zero (s .held)) ∙ rw (drop-of-length-le l h) at (was .held);
-            kept = sym (add-zero (s .held)) ∙ rw (drop-of-length-le l h) at (was .kept);
-            few = omega (arith, was .held-most);
+            counted = sym (add-zero (s .counted)) ∙ rw (drop-of-length-le l h) at (was .counted);
+            kept = sym (add-zero (s .counted)) ∙ rw (drop-of-length-le l h) at (was .kept);
+            few = omega (arith, was .counted-most);
           }
 
 -- ---- the place

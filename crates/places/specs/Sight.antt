@@ -59,7 +59,7 @@ Sees c time k t s = (s ≡ sightAt c time t (placeIn c time k t)) × (length (t 
 
 -- What is seen before any entry is looked at; `ok` says that the key is within its limits.
 abbrev pub nothingSeen : Bool → Seen
-nothingSeen ok = record { ok = ok; freed = false; free = 16; held = 0; gone = 0 }
+nothingSeen ok = record { ok = ok; freed = false; free = 16; counted = 0; gone = 0 }
 
 -- What is seen once entry i is looked at.
 abbrev pub seenNext : Config → ℕ → ℕ → Seen → ℕ → Entry → Seen
@@ -68,7 +68,7 @@ seenNext c clock time s i e =
       ok = s .ok && entryOk c clock e;
       freed = s .freed || not (unexpired (c .lifetime) time e);
       free = cond (leb 16 (s .free) && notLive (c .lifetime) time e) i (s .free);
-      held = s .held + heldBy e;
+      counted = s .counted + heldBy e;
       gone = s .gone + (heldBy e - heldBy (swept (c .lifetime) time e));
     }
 

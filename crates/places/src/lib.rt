@@ -47,13 +47,13 @@ pub struct Sight {
     pub others: u64,
 }
 
-// What a walk has seen so far: whether all is within the limits, whether an entry is expired, the first entry that is not live, or 16, and what is held, by all entries
-// and by those that are expired.
+// What a walk has seen so far: whether all is within the limits, whether an entry is expired, the first entry that is not live, or 16, and the bytes that it counted, in
+// all entries and in those that are expired.
 pub struct Seen {
     pub ok: bool,
     pub freed: bool,
     pub free: usize,
-    pub held: u64,
+    pub counted: u64,
     pub gone: u64,
 }
 
@@ -104,22 +104,22 @@ fn nothing_seen(ok: bool) -> Seen
         ok,
         freed: false,
         free: 16,
-        held: 0,
+        counted: 0,
         gone: 0,
     }
 }
 
 // All that is seen is within its limits, and the figure is what was counted.
 fn within(seen: Seen, figure: u64) -> bool
-    ensures { λ r. ⌜ r ≡ (seen .ok && eqb figure (seen .held)) ⌝ }
+    ensures { λ r. ⌜ r ≡ (seen .ok && eqb figure (seen .counted)) ⌝ }
 {
-    let bytes = seen.held;
+    let bytes = seen.counted;
     seen.ok & (figure == bytes)
 }
 
 // What an entry holds that a sweep keeps.
 fn kept_by(e: Entry, lifetime: u64, time: u64) -> u64
-    ensures { λ r. ⌜ (r ≡ heldBy (swept lifetime time e)) × (r < 17179869184) ⌝ }
+    ensures { λ r. ⌜ (r ≡ heldBy (swept lifetime time e)) × (r < 2 ^ 34) ⌝ }
 {
     if expiry::is_live(e.used, e.touched, lifetime, time) {
         return entries::held_by(e);
@@ -136,19 +136,19 @@ fn first_free(free: usize, i: usize) -> usize
 
 // What is seen once entry i is looked at: it is live, expired or free.
 fn see(seen: Seen, i: usize, e: Entry, config: Config, clock: u64, time: u64) -> Seen
-    requires { ⌜ (seen .held < 2 ^ 60) × (seen .gone < 2 ^ 60) ⌝ }
-    ensures { λ r. ⌜ (r ≡ seenNext config clock time seen i e) × (sized e ≡ true) × (heldBy e < 17179869184) ⌝ }
+    requires { ⌜ (seen .counted < 2 ^ 60) × (seen .gone < 2 ^ 60) ⌝ }
+    ensures { λ r. ⌜ (r ≡ seenNext config clock time seen i e) × (sized e ≡ true) × (heldBy e < 2 ^ 34) ⌝ }
 {
     let checked = entries::entry_checked(config, clock, e);
     let bytes = checked.bytes;
     let ok = seen.ok & checked.ok;
-    let held = seen.held + bytes;
+    let counted = seen.counted + bytes;
     if expiry::is_live(e.used, e.touched, config.lifetime, time) {
         return Seen {
             ok,
             freed: seen.freed,
             free: seen.free,
-            held,
+            counted,
             gone: seen.gone,
         };
     }
@@ -157,7 +157,7 @@ fn see(seen: Seen, i: usize, e: Entry, config: Config, clock: u64, time: u64) ->
             ok,
             freed: true,
             free: first_free(seen.free, i),
-            held,
+            counted,
             gone: seen.gone + bytes,
         };
     }
@@ -165,7 +165,7 @@ fn see(seen: Seen, i: usize, e: Entry, config: Config, clock: u64, time: u64) ->
         ok,
         freed: seen.freed,
         free: first_free(seen.free, i),
-        held,
+        counted,
         gone: seen.gone,
     }
 }
@@ -251,6 +251,6 @@ pub fn look(config: Config, table: Table, time: u64, named: NamedKey) -> Sight
         at,
         entry,
         freed: seen.freed,
-        others: seen.held - seen.gone - kept_by(entry, config.lifetime, time),
+        others: seen.counted - seen.gone - kept_by(entry, config.lifetime, time),
     }
 }

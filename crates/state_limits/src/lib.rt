@@ -5,7 +5,7 @@ use block_state::Cached;
 use block_state::Recorded;
 use config::Config;
 ghost use mathlib.Core.Path.{_≡_};
-ghost use Prim.Native.Nat.{_<_};
+ghost use Prim.Native.Nat.{_+_, _^_, _<_};
 ghost use Rattle.block_state.specs.State.{assembledOk, cachedOk, recordedOk, stateOk, isNothing};
 ghost use Rattle.block_state.specs.Held.{heldIn, heldOf};
 
@@ -24,11 +24,18 @@ fn assembled_ok(config: Config, assembled: Assembled) -> bool
         & ((assembled.len != 0) | (assembled.exponent == 0))
 }
 
+// The bytes of a response as it is cached: its head and its payload.
+fn cached_bytes(cached: Cached) -> u64
+    ensures { λ r. ⌜ (r ≡ cached .head + cached .payload) × (r < 2 ^ 33) ⌝ }
+{
+    wide::u64_of_u8(cached.head) + wide::u64_of_u32(cached.payload)
+}
+
 fn cached_checked(config: Config, cached: Cached) -> Checked
-    ensures { λ r. ⌜ (r .ok ≡ cachedOk config cached) × (r .bytes ≡ heldIn cached) × (r .bytes < 8589934592) ⌝ }
+    ensures { λ r. ⌜ (r .ok ≡ cachedOk config cached) × (r .bytes ≡ heldIn cached) × (r .bytes < 2 ^ 33) ⌝ }
 {
     if cached.held {
-        let bytes = wide::u64_of_u8(cached.head) + wide::u64_of_u32(cached.payload);
+        let bytes = cached_bytes(cached);
         return Checked {
             ok: (cached.head <= 128) & (bytes <= wide::u64_of_usize(config.response)),
             bytes,
@@ -50,7 +57,7 @@ fn recorded_ok(recorded: Recorded) -> bool
 }
 
 pub fn state_checked(config: Config, state: BlockState) -> Checked
-    ensures { λ r. ⌜ (r .ok ≡ stateOk config state) × (r .bytes ≡ heldOf state) × (r .bytes < 17179869184) ⌝ }
+    ensures { λ r. ⌜ (r .ok ≡ stateOk config state) × (r .bytes ≡ heldOf state) × (r .bytes < 2 ^ 34) ⌝ }
 {
     let assembled = state.assembled;
     let cached = state.cached;
@@ -67,6 +74,18 @@ pub fn state_ok(config: Config, state: BlockState) -> bool
 {
     let checked = state_checked(config, state);
     checked.ok
+}
+
+// What a state holds, which is below 2^34 even off its limits.
+pub fn held_of(state: BlockState) -> u64
+    ensures { λ r. ⌜ (r ≡ heldOf state) × (r < 2 ^ 34) ⌝ }
+{
+    let cached = state.cached;
+    let assembled = wide::u64_of_u32(state.assembled.len);
+    if cached.held {
+        return assembled + cached_bytes(cached);
+    }
+    assembled
 }
 
 // The state is zeros, as a free entry's is.

@@ -34,7 +34,7 @@ use denote.Memory.{mem, partAt, pointee}
 use denote.Plain.{uint-vals, uint-tells, uint-makes}
 use denote.Builtin.{u64}
 use denote.Ref.{RefT, MutRef, ptr-vals, mut-tells}
-use denote.Index.{row, place-is, elem-out, elem-put}
+use denote.Index.{place-is, elem-out, elem-put}
 use denote.Signature.{plain}
 use denote.Steps.{opens, closes, owned, peeks, nothing}
 use denote.Struct.Steps.{spelt}

@@ -1,6 +1,5 @@
-use mathlib.Core.Path.{_≡_, sym, ap, _∙_}
+use mathlib.Core.Path.{sym, ap, _∙_}
 use native.Mathlib.Omega.{arith}
-use Rattle.entries.specs.declared.Entry.{Entry}
 use Rattle.entries.specs.Held.{heldBy}
 use Rattle.entries.proofs.Cases.{live-as}
 use Rattle.entries.proofs.Entries.{swept-live, swept-dead}

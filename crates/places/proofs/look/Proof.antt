@@ -48,7 +48,8 @@ walk-turns c =
 tags-turn : tie.Need-loop2-again Inv-loop μ-loop Inv-loop2 μ-loop2
 tags-turn c =
     let tagging = c .before .before .before .before in
-    let args = tagging .before .before .before .before .before .before .args in
+    let walk = tagging .before .before in
+    let args = walk .before .before .before .before .args in
     let go =
     tags-go (args .table .entries) (tagging .loop2 .tags) (tagging .loop2 .j) _ nil (omega arith) (omega arith) (c .tag .ensures ∙ rw (c .before .narrow .ensures))
     (tagging .loop2 .inv .1 .1) in
@@ -93,7 +94,7 @@ module _ (c : tie.After-quick-place Inv-loop μ-loop Inv-loop2 μ-loop2) where
   there k is =
       let args = start .args in
       let found = own .before .find-tag in
-      let ok = c .before .before .within .ensures ∙ within-all (args .table) _ _ _ _ _ (named-ok k (args .named) is) (seen .ok) (seen .held) in
+      let ok = c .before .before .within .ensures ∙ within-all (args .table) _ _ _ _ _ (named-ok k (args .named) is) (seen .ok) (seen .counted) in
       place-seen (args .config) (args .table) k (args .time) (keyOf (args .named .key)) _ (walk .loop .seen .free) (tagging .loop2 .tags) (args .named .tag)
       (found .result) _ sixteen ok (seen .free) (named-read k (args .named) is) (named-tag k (args .named) is) tags (found .ensures) (own .index .result)
       (own .index .ensures .0) (asked .holds-live .ensures) (c .before .apart .result) _ (c .before .apart .ensures) (c .quick-place .ensures)

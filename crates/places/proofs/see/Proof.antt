@@ -1,6 +1,6 @@
 use mathlib.Core.Path.{_≡_, sym, _∙_}
 use mathlib.Core.Bool.{Bool}
-use Prim.Native.Nat.{_<_}
+use Prim.Native.Nat.{_^_, _<_}
 use Rattle.entries.specs.Entries.{live}
 use Rattle.entries.specs.Held.{heldBy}
 use Rattle.entries.proofs.Cases.{live-as}
@@ -16,7 +16,7 @@ lives : (c : tie.After-is-live) (b : Bool) → c .is-live .result ≡ b
     → let args = checked-in c .before .args in live (args .config .lifetime) (args .time) (args .e) ≡ b
 lives c b told = live-as _ _ _ b (sym told ∙ c .is-live .ensures)
 
-few : (c : tie.After-entry-checked) → heldBy (c .before .args .e) < 17179869184
+few : (c : tie.After-entry-checked) → heldBy (c .before .args .e) < 2 ^ 34
 few c = rw (← (c .entry-checked .ensures .1)) (c .entry-checked .ensures .2)
 
 is-live : tie.Need-returns

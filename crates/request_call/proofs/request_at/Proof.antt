@@ -14,6 +14,10 @@ use borrow.Author.Needs.{needs}
 use Rattle.request_call.proofs.request_at.Statement.{statement}
 use Rattle.request_call.proofs.request_at.Tie as tie
 
+-- where the call starts, from where its entry is opened
+abbrev start : tie.After-opened-entry → tie.Start
+start c = c .before .before .before
+
 -- what the verdict tells
 placed : (c : tie.Start) → let a = c .args in
     AtPlace (a .config) (c .pre .2) (a .asked .time) (c .pre .0) (lengths (length (a .upload .now)) (c .pre .1) (a .asked .bare) (length (a .payload .now)) 0) (a .i)
@@ -30,16 +34,16 @@ holds : (c : tie.After-opened-entry) → let s = c .before .before .before in c 
 holds c = let s = c .before .before .before in rw (entry-is c (s .pre .0) (s .pre .1) (s .pre .2) (s .pre .3)) (placed s .holds (s .pre .3 .1 .0 .1))
 
 mul-home : tie.Need-mul-home
-mul-home c = omega (arith, placed (c .before .before .before .before .before))
+mul-home c = omega (arith, placed (start (c .before .before)))
 
 mul-away : tie.Need-mul-away
-mul-away c = omega (arith, placed (c .before .before .before .before .before .before))
+mul-away c = omega (arith, placed (start (c .before .before .before)))
 
 add-end : tie.Need-add-end
-add-end c = omega (arith, placed (c .before .before .before .before .before .before .before))
+add-end c = omega (arith, placed (start (c .before .before .before .before)))
 
 part-ends : tie.Need-part-step-request-end
-part-ends c = omega (arith, placed (c .before .before .before .before .before .before .before))
+part-ends c = omega (arith, placed (start (c .before .before .before .before)))
 
 step-request-requires : tie.Need-step-request-requires
 step-request-requires c κs =
@@ -52,13 +56,14 @@ step-request-requires c κs =
 leave-requires : tie.Need-leave-requires
 leave-requires c κs =
     let stepped = c .before .before .before in
-    let from = stepped .before .before .before .before .before .before in
-    from .before .before .before .pre .3 .1 .0 .3
+    let ends = stepped .before .before in
+    start (ends .before .before .before .before) .pre .3 .1 .0 .3
 
 returns : tie.Need-returns
 returns c =
     let stepped = c .before .before .before .before in
-    let from = stepped .before .before .before .before .before .before in
+    let ends = stepped .before .before in
+    let from = ends .before .before .before .before in
     let a = from .before .before .before .args in
     let g = stepped .step-request in
     let m = a .upload .now in

@@ -1,8 +1,6 @@
-use mathlib.Core.Path.{_≡_, refl, _∙_}
-use Prim.Native.Nat.{ℕ}
+use mathlib.Core.Path.{_∙_}
 use native.Mathlib.Omega.{arith}
 use lib.ListN.{length}
-use Rattle.block_table.specs.declared.Table.{Table}
 use Rattle.entries.specs.Entries.{sweep}
 use Rattle.places.specs.Places.{opened}
 use Rattle.judge.specs.Verdict.{lengths}
@@ -12,6 +10,10 @@ use borrow.Author.Needs.{needs}
 use Rattle.response_call.proofs.response_at.Statement.{statement}
 use Rattle.response_call.proofs.response_at.Tie as tie
 
+-- where the call starts, from where its entry is opened
+abbrev start : tie.After-opened-entry → tie.Start
+start c = c .before .before .before .before
+
 -- what the verdict tells
 placed : (c : tie.Start) → let a = c .args in
     AtPlace (a .config) (c .pre .2) (a .numbers .time) (c .pre .0)
@@ -19,13 +21,13 @@ placed : (c : tie.Start) → let a = c .args in
 placed c = at-place _ _ _ _ _ _ (c .pre .3 .1 .1)
 
 mul-from : tie.Need-mul-from
-mul-from c = omega (arith, placed (c .before .before .before .before .before .before))
+mul-from c = omega (arith, placed (start (c .before .before)))
 
 add-end : tie.Need-add-end
-add-end c = omega (arith, placed (c .before .before .before .before .before .before .before))
+add-end c = omega (arith, placed (start (c .before .before .before)))
 
 part-ends : tie.Need-part-step-response-end
-part-ends c = omega (arith, placed (c .before .before .before .before .before .before .before))
+part-ends c = omega (arith, placed (start (c .before .before .before)))
 
 step-response-requires : tie.Need-step-response-requires
 step-response-requires c κs =
@@ -37,8 +39,7 @@ step-response-requires c κs =
 leave-requires : tie.Need-leave-requires
 leave-requires c κs =
     let stepped = c .before .before .before in
-    let from = stepped .before .before .before .before .before in
-    from .before .before .before .before .pre .3 .1 .0 .3
+    start (stepped .before .before .before .before .before) .pre .3 .1 .0 .3
 
 returns : tie.Need-returns
 returns c =
