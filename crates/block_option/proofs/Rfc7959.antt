@@ -1,55 +1,81 @@
--- Document 01's block value against RFC 7959's: what is read and written means what the RFC says. Assumes nothing.
-use mathlib.Core.Path.{_≡_, refl, ap, _∙_}
+-- Document 01's block value against RFC 7959's: what is read and written means what the RFC says. Proved once, over the width of an option. Assumes nothing.
+use mathlib.Core.Path.{_≡_, refl, sym, _∙_}
 use mathlib.Core.Bool.{Bool, true, false, cond}
-use mathlib.Core.List.{List, [], _∷_}
-use Prim.Native.Nat.{ℕ, _+_, _*_, _/_, _%_, _^_, _≤_, _<_}
-use native.Mathlib.Nat.{pow-suc, mul-le-mul-right}
+use mathlib.Core.List.{List, [], _∷_, _++_}
+use Prim.Native.Nat.{ℕ, zero, suc, _+_, _-_, _*_, _/_, _%_, _^_, _≤_, _<_}
+use native.Mathlib.Nat.{pow-suc, pow-le-pow-right, mod-eq-of-lt}
 use native.Mathlib.Omega.{arith}
-use lib.Dec.{ltb, eqb}
-use lib.ListN.{length, take}
-use borrow.Author.Tests.{eqb-true, eqb-false, ltb-true, ltb-false}
+use lib.Dec.{eqb}
+use lib.ListN.{length, take, length-append}
+use borrow.Author.Tests.{eqb-true, eqb-false}
 use Rattle.config.specs.declared.Config.{Config}
-use Rattle.block_value.specs.Value.{sizeOf}
+use Rattle.config.specs.Mode.{optionBytes, nums}
+use Rattle.config.proofs.Mode.{bytes-most, nums-least, nums-bytes}
 use Rattle.block_value.proofs.Laws.{size-is}
-use Rattle.block_option.specs.Option.{unpacked, readOf, packed, shortest, written, inTwo}
-use Rattle.block_option.specs.Rfc7959.{uint, Bytes, Holds, bytesIn, Fewest}
 use Rattle.block_value.specs.declared.BlockValue.{BlockValue}
+use Rattle.block_option.specs.Uint.{uint, Bytes, shortest}
+use Rattle.block_option.specs.Option.{unpacked, readOf, packed, written, inThree}
+use Rattle.block_option.specs.Rfc7959.{Holds, HoldsBlock, Fewest, AsTheRfc, BothModes}
 use Rattle.block_option.specs.declared.Reading.the-variants.{Value}
-use Rattle.block_option.proofs.Laws.{short-0, short-1, short-2}
+use Rattle.block_option.proofs.Laws.{uint-snoc, uint-below, read-few, read-long, read-num}
 
--- ---- what bytes can spell
+-- ---- the shortest form, of at most `most` bytes
 
--- n bytes spell less than 256 ^ n
-uint-below : (l : List ℕ) → Bytes l → uint l < 256 ^ length l
-unfolding uint
-uint-below [] h = omega arith
-uint-below (b ∷ l) h =
-    let below : b * 256 ^ length l ≤ 255 * 256 ^ length l = mul-le-mul-right (256 ^ length l) (omega arith) in
-    let rest = uint-below l (h .1) in
-    rw (pow-suc 256 (length l)) (omega arith)
+-- by whether the number is 0
+on-zero : (P : List ℕ → Type 0) (most v : ℕ) → (v ≡ 0 → P []) → ((v ≡ 0 → ⊥) → P (shortest most (v / 256) ++ (v % 256 ∷ []))) → P (shortest (suc most) v)
+unfolding shortest
+on-zero P most v none some = go (eqb v 0) refl
+  where
+    go : (z : Bool) → eqb v 0 ≡ z → P (cond z [] (shortest most (v / 256) ++ (v % 256 ∷ [])))
+    go true e = none (eqb-true v 0 e)
+    go false e = some (eqb-false v 0 e)
 
--- so a number of 256 or more takes two bytes, and one of 1 or more takes one
-takes-two : (l : List ℕ) → Bytes l → 256 ≤ uint l → 2 ≤ length l
-unfolding uint
-takes-two [] h v = absurd (omega arith)
-takes-two (a ∷ []) h v = absurd (omega (arith, uint-below (a ∷ []) h))
-takes-two (a ∷ b ∷ l) h v = omega arith
+spells : (most v : ℕ) → v < 256 ^ most → uint (shortest most v) ≡ v
+unfolding uint shortest
+spells zero v h = omega arith
+spells (suc most) v h =
+    on-zero (λ l. uint l ≡ v) most v (λ z. sym z)
+    (λ _.
+    let power : 256 ^ suc most ≡ 256 ^ most * 256 = pow-suc 256 most in
+    let rest : uint (shortest most (v / 256)) ≡ v / 256 = spells most (v / 256) (omega arith) in
+    uint-snoc (shortest most (v / 256)) (v % 256) ∙ rw rest (omega arith))
 
-takes-one : (l : List ℕ) → 1 ≤ uint l → 1 ≤ length l
-unfolding uint
-takes-one [] v = absurd (omega arith)
-takes-one (a ∷ l) v = omega arith
+bytes-snoc : (l : List ℕ) (b : ℕ) → Bytes l → b < 256 → Bytes (l ++ (b ∷ []))
+bytes-snoc [] b h k = (k, tt)
+bytes-snoc (a ∷ l) b h k = (h .0, bytes-snoc l b (h .1) k)
 
-spelled-below : (l : List ℕ) → Bytes l → length l ≤ 2 → uint l < 65536
-unfolding uint
-spelled-below [] h few = omega arith
-spelled-below (a ∷ []) h few = omega (arith, uint-below (a ∷ []) h)
-spelled-below (a ∷ b ∷ []) h few = omega (arith, uint-below (a ∷ b ∷ []) h)
-spelled-below (a ∷ b ∷ c ∷ l) h few = absurd (omega arith)
+bytes : (most v : ℕ) → Bytes (shortest most v)
+unfolding shortest
+bytes zero v = tt
+bytes (suc most) v = on-zero Bytes most v (λ _. tt) (λ _. bytes-snoc (shortest most (v / 256)) (v % 256) (bytes most (v / 256)) (omega arith))
 
--- ---- read: every option of at most 2 bytes is read as the RFC reads it
+within : (most v : ℕ) → length (shortest most v) ≤ most
+unfolding shortest
+within zero v = omega arith
+within (suc most) v =
+    on-zero (λ l. length l ≤ suc most) most v (λ _. omega arith)
+    (λ _. rw (length-append (shortest most (v / 256)) (v % 256 ∷ [])) (omega (arith, within most (v / 256))))
 
-unpacked-holds : (option : List ℕ) → Bytes option → length option ≤ 3 → Holds option (unpacked (uint option) .num) (unpacked (uint option) .more) (unpacked (uint option) .«size_exponent»)
+-- a number below 256 ^ n takes at most n bytes
+takes : (most n v : ℕ) → v < 256 ^ n → length (shortest most v) ≤ n
+unfolding shortest
+takes zero n v h = omega arith
+takes (suc most) zero v h = on-zero (λ l. length l ≤ 0) most v (λ _. omega arith) (λ some. absurd (some (omega arith)))
+takes (suc most) (suc n) v h =
+    on-zero (λ l. length l ≤ suc n) most v (λ _. omega arith)
+    (λ _.
+    let power : 256 ^ suc n ≡ 256 ^ n * 256 = pow-suc 256 n in
+    let rest = takes most n (v / 256) (omega arith) in
+    rw (length-append (shortest most (v / 256)) (v % 256 ∷ [])) (omega arith))
+
+fewest : (most v : ℕ) → v < 256 ^ most → Fewest (shortest most v)
+unfolding Fewest
+fewest most v h other b e = takes most (length other) v (rw (e ∙ spells most v h) at (uint-below other b))
+
+-- ---- read
+
+-- every option of at most 3 bytes holds a value, which is the one that its number unpacks to
+unpacked-holds : (option : List ℕ) → Bytes option → length option ≤ 3 → HoldsBlock option (unpacked (uint option))
 unpacked-holds option b h = record { bytes = b; few = h; scalar = go (eqb (v / 8 % 2) 1) refl; three-bits = omega arith }
   where
     v : ℕ
@@ -59,25 +85,6 @@ unpacked-holds option b h = record { bytes = b; few = h; scalar = go (eqb (v / 8
     go true e = omega (arith, eqb-true (v / 8 % 2) 1 e)
     go false e = let z = eqb-false (v / 8 % 2) 1 e in omega arith
 
-read-value : (c : Config) (option : List ℕ) → length option ≤ 2 → readOf c option ≡ Value (unpacked (uint option))
-unfolding readOf uint
-read-value c [] h = refl
-read-value c (a ∷ []) h = ap (λ (n : ℕ). Value (unpacked n)) (omega arith)
-read-value c (a ∷ b ∷ []) h = ap (λ (n : ℕ). Value (unpacked n)) (omega arith)
-read-value c (a ∷ b ∷ d ∷ l) h = absurd (omega arith)
-
--- READ: an option of at most 2 bytes is read, and as the RFC reads it.
-pub read-as-the-rfc : (c : Config) (option : List ℕ) → Bytes option → length option ≤ 2
-    → (b : BlockValue) × (readOf c option ≡ Value b) × Holds option (b .num) (b .more) (b .«size_exponent»)
-read-as-the-rfc c option b h = (unpacked (uint option), read-value c option h, unpacked-holds option b (omega arith))
-
--- Its num is at most 4095.
-pub read-num : (c : Config) (option : List ℕ) (b : BlockValue) → Bytes option → length option ≤ 2 → readOf c option ≡ Value b → b .num ≤ 4095
-read-num c option b h few e =
-    let same : unpacked (uint option) ≡ b = cc (read-value c option few) in
-    let below : uint option < 65536 = spelled-below option h few in
-    rw (← same) (omega arith)
-
 -- The RFC's account leaves no choice: an option holds one NUM, one M and one SZX.
 pub holds-one : (option : List ℕ) (n k : ℕ) (p q : Bool) (s t : ℕ) → Holds option n p s → Holds option k q t → (n ≡ k) × (p ≡ q) × (s ≡ t)
 holds-one option n k true true s t a b = (omega arith, refl, omega arith)
@@ -85,63 +92,66 @@ holds-one option n k true false s t a b = absurd (omega arith)
 holds-one option n k false true s t a b = absurd (omega arith)
 holds-one option n k false false s t a b = (omega arith, refl, omega arith)
 
--- SIZE: for SZX 0 to 6 it is the RFC's.
-pub size-as-the-rfc : (szx : ℕ) → szx ≤ 6 → sizeOf szx ≡ bytesIn szx
-size-as-the-rfc szx h = size-is szx (omega arith)
+in-three : (l : List ℕ) → length l ≤ 3 → take (inThree l .len) (inThree l .bytes) ≡ l
+in-three [] h = refl
+in-three (x ∷ []) h = refl
+in-three (x ∷ y ∷ []) h = refl
+in-three (x ∷ y ∷ z ∷ []) h = refl
+in-three (x ∷ y ∷ z ∷ w ∷ l) h = absurd (omega arith)
 
--- ---- write
+module _ (c : Config) where
+  abbrev most : ℕ
+  most = optionBytes (c .strict)
 
--- what is written spells the number, in the fewest bytes
-pub record Spells (option : List ℕ) (scalar : ℕ) : Type 0 where
-  pub value : uint option ≡ scalar
-  pub bytes : Bytes option
-  pub few : length option ≤ 2
-  pub fewest : Fewest option
+  read-holds : (option : List ℕ) → Bytes option → length option ≤ most → (b : BlockValue) × (readOf c option ≡ Value b) × HoldsBlock option b × (b .num ≤ nums (c .strict) - 1)
+  read-holds option b h =
+      let is = read-few c option h in
+      (unpacked (uint option), is, unpacked-holds option b (omega (arith, bytes-most (c .strict))), omega (arith, read-num c option _ b is))
 
-shortest-spells : (v : ℕ) → v < 65536 → Spells (shortest v) v
-unfolding uint Fewest
-shortest-spells v small = go (eqb v 0) (ltb v 256) refl refl
-  where
-    go : (z s : Bool) → eqb v 0 ≡ z → ltb v 256 ≡ s → Spells (shortest v) v
-    go true s p q =
-        rw (short-0 v (eqb-true v 0 p)) (record { value = omega (arith, eqb-true v 0 p); bytes = tt; few = omega arith; fewest = λ l h e. omega arith })
-    go false true p q =
-        let z = eqb-false v 0 p in
-        rw (short-1 v z (ltb-true v 256 q)) (record { value = omega arith; bytes = (ltb-true v 256 q, tt); few = omega arith; fewest = λ l h e. takes-one l (omega arith) })
-    go false false p q =
-        let z = eqb-false v 0 p in
-        let f = ltb-false v 256 q in
-        rw (short-2 v z f) (record { value = omega arith; bytes = (omega arith, (omega arith, tt)); few = omega arith; fewest = λ l h e. takes-two l h (omega arith) })
+  read-held : (option : List ℕ) → length option ≤ most → (b : BlockValue) → HoldsBlock option b → readOf c option ≡ Value b
+  read-held option h b holds =
+      let same = holds-one option _ (b .num) _ (b .more) _ (b .«size_exponent») (unpacked-holds option (holds .bytes) (holds .few)) holds in
+      read-few c option h ∙ (λ i. Value (record { num = same .0 i; more = same .1 i; «size_exponent» = same .2 i }))
 
-in-two : (l : List ℕ) → length l ≤ 2 → take (inTwo l .len) (inTwo l .bytes) ≡ l
-in-two [] h = refl
-in-two (x ∷ []) h = refl
-in-two (x ∷ y ∷ []) h = refl
-in-two (x ∷ y ∷ z ∷ l) h = absurd (omega arith)
+  -- ---- write
 
-module _ (c : Config) (b : BlockValue) (few : b .num ≤ 4095) (known : b .«size_exponent» ≤ 7) where
-  packed-is : packed c b ≡ b .num * 16 + cond (b .more) 8 0 + b .«size_exponent»
-  packed-is = omega arith
+  module _ (b : BlockValue) (few : b .num ≤ nums (c .strict) - 1) (known : b .«size_exponent» ≤ 7) where
+    num-kept : b .num % nums (c .strict) ≡ b .num
+    num-kept = mod-eq-of-lt (omega (arith, nums-least (c .strict)))
 
-  spells : Spells (written c b) (packed c b)
-  spells = shortest-spells (packed c b) (go (b .more))
-    where
-      go : (m : Bool) → b .num % 4096 * 16 + cond m 8 0 + b .«size_exponent» % 8 < 65536
-      go true = omega arith
-      go false = omega arith
+    packed-is : packed c b ≡ b .num * 16 + cond (b .more) 8 0 + b .«size_exponent»
+    packed-is = rw num-kept (omega arith)
 
-  -- WRITTEN, for a num of at most 4095: the RFC's shortest form, and the RFC reads the same value back.
-  pub written-as-the-rfc : Holds (written c b) (b .num) (b .more) (b .«size_exponent») × Fewest (written c b)
-  written-as-the-rfc =
-      (record { bytes = spells .bytes; few = omega (arith, spells .few); scalar = spells .value ∙ packed-is; three-bits = omega arith }, spells .fewest)
+    packed-below : packed c b < 256 ^ most
+    packed-below = rw (packed-is, ← nums-bytes (c .strict)) (go (b .more))
+      where
+        go : (m : Bool) → b .num * 16 + cond m 8 0 + b .«size_exponent» < nums (c .strict) * 16
+        go true = omega (arith, nums-least (c .strict))
+        go false = omega (arith, nums-least (c .strict))
+
+    three : packed c b < 256 ^ 3
+    three = let wide : 256 ^ most ≤ 256 ^ 3 = pow-le-pow-right (omega arith) (bytes-most (c .strict)) in omega (arith, packed-below)
+
+    write-holds : HoldsBlock (written c b) b × Fewest (written c b) × (length (written c b) ≤ most) × (readOf c (written c b) ≡ Value b)
+    write-holds =
+        let short : length (written c b) ≤ most = takes 3 most (packed c b) packed-below in
+        let holds : HoldsBlock (written c b) b =
+        record { bytes = bytes 3 (packed c b); few = omega (arith, bytes-most (c .strict)); scalar = spells 3 (packed c b) three ∙ packed-is; three-bits = omega arith } in
+        (holds, fewest 3 (packed c b) three, short, read-held (written c b) short b holds)
 
   -- The bytes that `write` returns are those, and only those.
-  pub returned : take (inTwo (written c b) .len) (inTwo (written c b) .bytes) ≡ written c b
-  returned = in-two (written c b) (spells .few)
+  pub returned : (b : BlockValue) → take (inThree (written c b) .len) (inThree (written c b) .bytes) ≡ written c b
+  returned b = in-three (written c b) (within 3 (packed c b))
 
-  -- READ AFTER WRITE is the identity.
-  pub read-after-write : readOf c (written c b) ≡ Value b
-  read-after-write =
-      let r = read-as-the-rfc c (written c b) (spells .bytes) (spells .few) in
-      let same = holds-one (written c b) (r .0 .num) (b .num) (r .0 .more) (b .more) (r .0 .«size_exponent») (b .«size_exponent») (r .2) (written-as-the-rfc .0) in
-      r .1 ∙ (λ i. Value (record { num = same .0 i; more = same .1 i; «size_exponent» = same .2 i }))
+as-the-rfc : (strict : Bool) → AsTheRfc strict (optionBytes strict) (nums strict - 1)
+as-the-rfc strict =
+    record {
+      read = λ c e option b h. rw (← e) (read-holds c option b (rw (← e) at h));
+      one = λ c e option h. read-held c option (rw (← e) at h);
+      unread = λ c e option h. read-long c option (rw (← e) at h);
+      write = λ c e b few known. rw (← e) (write-holds c b (rw (← e) at few) known);
+    }
+
+pub both-modes : BothModes
+unfolding optionBytes nums
+both-modes = record { strict = as-the-rfc true; plain = as-the-rfc false; size = λ szx h. size-is szx (omega arith) }

@@ -1,2 +1,3 @@
+pub mod Uint
 pub mod Option
 pub mod Rfc7959

@@ -1,9 +1,12 @@
-// The bytes of a Block1 or Block2 option: read, write. Both take the configuration, since their limits are a mode's; today the two modes have the same.
+// The bytes of a Block1 or Block2 option: read, write. Both take the configuration, since it is the mode that says how many bytes an option may have.
 use block_value::BlockValue;
 use config::Config;
 ghost use mathlib.Core.Path.{_≡_};
-ghost use Prim.Native.Nat.{_<_};
-ghost use Rattle.block_option.specs.Option.{unpacked, readOf, packed, written, inTwo};
+ghost use Prim.Native.Nat.{_%_, _^_, _<_, _≤_};
+ghost use lib.ListN.{length};
+ghost use Rattle.config.specs.Mode.{nums};
+ghost use Rattle.block_option.specs.Uint.{uint};
+ghost use Rattle.block_option.specs.Option.{unpacked, readOf, packed, written, inThree};
 
 // What read answers.
 pub enum Reading {
@@ -15,7 +18,7 @@ pub enum Reading {
 #[repr(C)]
 pub struct Written {
     pub len: usize,
-    pub bytes: [u8; 2],
+    pub bytes: [u8; 3],
 }
 
 fn unpack(scalar: u32) -> BlockValue
@@ -28,53 +31,78 @@ fn unpack(scalar: u32) -> BlockValue
     }
 }
 
+// The number that the bytes spell, the most significant first.
+fn scalar_of(option: &[u8]) -> u32
+    requires { ⌜ length (now option) ≤ 3 ⌝ }
+    ensures { λ r. ⌜ r ≡ uint (now (option .entry)) ⌝ }
+{
+    let mut scalar: u32 = 0;
+    let mut i: usize = 0;
+    while i < option.len() {
+        scalar = scalar * 256 + wide::u32_of_u8(option[i]);
+        i += 1;
+    }
+    scalar
+}
+
 pub fn read(config: Config, option: &[u8]) -> Reading
     ensures { λ r. ⌜ r ≡ readOf config (now (option .entry)) ⌝ }
 {
-    let n = option.len();
-    if n == 0 {
-        return Reading::Value(unpack(0));
+    if config::option_bytes(config) < option.len() {
+        return Reading::Unreadable;
     }
-    if n == 1 {
-        return Reading::Value(unpack(wide::u32_of_u8(option[0])));
+    Reading::Value(unpack(scalar_of(option)))
+}
+
+// The num as far as an option of the mode can hold it.
+fn kept_num(config: Config, num: u32) -> u32
+    ensures { λ r. ⌜ (r ≡ num % nums (config .strict)) × (r < 2 ^ 20) ⌝ }
+{
+    if config.strict {
+        return num % 1048576;
     }
-    if n == 2 {
-        return Reading::Value(unpack(
-            wide::u32_of_u8(option[0]) * 256 + wide::u32_of_u8(option[1]),
-        ));
-    }
-    Reading::Unreadable
+    num % 4096
 }
 
 fn pack(config: Config, block: BlockValue) -> u32
-    ensures { λ r. ⌜ (r ≡ packed config block) × (r < 65536) ⌝ }
+    ensures { λ r. ⌜ (r ≡ packed config block) × (r < 2 ^ 24) ⌝ }
 {
-    let num = block.num;
+    let num = kept_num(config, block.num);
     let exponent = wide::u32_of_u8(block.size_exponent % 8);
     if block.more {
-        return num % 4096 * 16 + 8 + exponent;
+        return num * 16 + 8 + exponent;
     }
-    num % 4096 * 16 + exponent
+    num * 16 + exponent
 }
 
 pub fn write(config: Config, block: BlockValue) -> Written
-    ensures { λ r. ⌜ r ≡ inTwo (written config block) ⌝ }
+    ensures { λ r. ⌜ r ≡ inThree (written config block) ⌝ }
 {
     let scalar = pack(config, block);
     if scalar == 0 {
         return Written {
             len: 0,
-            bytes: [0, 0],
+            bytes: [0, 0, 0],
         };
     }
     if scalar < 256 {
         return Written {
             len: 1,
-            bytes: [scalar as u8, 0],
+            bytes: [scalar as u8, 0, 0],
+        };
+    }
+    if scalar < 65536 {
+        return Written {
+            len: 2,
+            bytes: [(scalar / 256) as u8, (scalar % 256) as u8, 0],
         };
     }
     Written {
-        len: 2,
-        bytes: [(scalar / 256) as u8, (scalar % 256) as u8],
+        len: 3,
+        bytes: [
+            (scalar / 65536) as u8,
+            (scalar / 256 % 256) as u8,
+            (scalar % 256) as u8,
+        ],
     }
 }

@@ -3,7 +3,7 @@ use Prim.Native.Nat.{ℕ}
 use mathlib.Core.Bool.{Bool}
 use mathlib.Core.List.{List}
 use mathlib.Core.Option.{Option, none, some}
-use Rattle.block_option.specs.Rfc7959.{Bytes}
+use Rattle.block_option.specs.Uint.{Bytes}
 
 -- An option's bytes are bytes: below 256. The code's types give it of every call.
 abbrev pub OptionBytes : Option (List ℕ) → Type 0

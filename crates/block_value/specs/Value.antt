@@ -1,9 +1,9 @@
--- Document 01, "Block value": what make and size come to, and where a block starts. Make takes the configuration, of which nothing counts here: document 01 says
--- the same for both modes.
+-- Document 01, "Block value": what make and size come to, and where a block starts. Of the configuration only the mode counts.
 use Prim.Native.Nat.{ℕ, zero, suc, _+_, _-_, _*_, _%_, _^_}
 use mathlib.Core.Bool.{Bool, cond}
 use lib.Dec.{leb, ltb, eqb}
 use Rattle.config.specs.declared.Config.{Config}
+use Rattle.config.specs.Mode.{numLimit}
 use Rattle.block_value.specs.declared.BlockValue.{BlockValue}
 use Rattle.block_value.specs.declared.Made.{Made}
 use Rattle.block_value.specs.declared.Made.the-variants as made-variants
@@ -17,12 +17,12 @@ largestPower (suc most) size = cond (leb (2 ^ suc most) size) (suc most) (larges
 abbrev pub exponentOf : ℕ → ℕ
 exponentOf size = largestPower 63 size - 4
 
--- "Size 0 is refused; .. an exponent above 7 or a num above 65,535 is refused."
+-- "Size 0 is refused; .. an exponent above 7 or a num above 65,535 is refused", or above the limit of the mode (document 02).
 unfoldable pub made : Config → ℕ → Bool → ℕ → Made
 made c num more size =
     cond (eqb size 0) made-variants.Refused
     (cond (ltb 7 (exponentOf size)) made-variants.Refused
-    (cond (ltb 65535 num) made-variants.Refused
+    (cond (ltb (numLimit (c .strict)) num) made-variants.Refused
     (made-variants.Value (record { num = num; more = more; «size_exponent» = exponentOf size }))))
 
 -- "Its size is 2 to the power exponent + 4." An exponent is three bits: of a larger byte only those count.

@@ -31,7 +31,7 @@ fn largest_power_of_2_not_in_excess(target: usize) -> usize
     exponent
 }
 
-// Makes a block value. It takes the configuration, since its limits are a mode's; today the two modes have the same.
+// Makes a block value, of a num up to the mode's limit.
 pub fn make(config: Config, num: usize, more: bool, size: usize) -> Made
     ensures { λ r. ⌜ r ≡ made config num more size ⌝ }
 {
@@ -42,7 +42,7 @@ pub fn make(config: Config, num: usize, more: bool, size: usize) -> Made
     if 11 < exponent {
         return Made::Refused;
     }
-    if 65535 < num {
+    if config::num_limit(config) < num {
         return Made::Refused;
     }
     if exponent < 4 {

@@ -1,4 +1,4 @@
--- Document 01's cases 1 to 12, those of strict mode and those at the edges of its numbers hold of the definitions, by computation. Assumes nothing.
+-- Document 01's cases 1 to 12, those of strict mode, those at the edges of its numbers and document 02's hold of the definitions, by computation. Assumes nothing.
 use Prim.Native.Nat.{ℕ, zero, suc}
 use mathlib.Core.Bool.{Bool}
 use mathlib.Core.Path.{refl}
@@ -7,6 +7,7 @@ use lib.ListN.{take, drop}
 use Rattle.cases.specs.Cases.{Row, AllSay, cases}
 use Rattle.cases.specs.StrictCases.{strictCases}
 use Rattle.cases.specs.EdgeCases.{edgeCases}
+use Rattle.cases.specs.ModeCases.{modeCases}
 use Rattle.cases.specs.HeldCases.{heldCases}
 use Rattle.cases.proofs.Computes.{steps, calls}
 
@@ -21,7 +22,7 @@ unfolding steps
 cases-hold strict =
     halves 15 (cases strict)
     (refl, (refl, (refl, (refl, (refl, (refl, (refl, (refl, (refl, (refl, (refl, (refl, (refl, (refl, (refl, tt)))))))))))))))
-    (refl, (refl, (refl, (refl, (refl, (refl, (refl, (refl, (refl, (refl, (refl, (refl, (refl, (refl, tt))))))))))))))
+    (refl, (refl, (refl, (refl, (refl, (refl, (refl, (refl, (refl, (refl, (refl, (refl, (refl, (refl, (refl, (refl, tt))))))))))))))))
 
 pub strict-cases : AllSay strictCases
 unfolding steps
@@ -30,6 +31,13 @@ strict-cases = (refl, (refl, (refl, (refl, (refl, (refl, (refl, (refl, (refl, (r
 pub edge-cases : AllSay edgeCases
 unfolding calls
 edge-cases = (refl, (refl, (refl, (refl, (refl, (refl, (refl, (refl, (refl, (refl, (refl, (refl, (refl, (refl, (refl, (refl, (refl, (refl, tt))))))))))))))))))
+
+pub mode-cases : AllSay modeCases
+unfolding steps
+mode-cases =
+    halves 10 modeCases
+    (refl, (refl, (refl, (refl, (refl, (refl, (refl, (refl, (refl, (refl, tt))))))))))
+    (refl, (refl, (refl, (refl, (refl, (refl, (refl, (refl, (refl, tt)))))))))
 
 pub held-cases : AllSay heldCases
 unfolding calls

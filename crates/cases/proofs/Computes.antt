@@ -1,7 +1,9 @@
 -- Names for what is computed with: a proof by computation that says `unfolding calls` opens all definitions of a call, and so for the parts.
 use Rattle.pieces.specs.Memory as memory
 use Rattle.splicing.specs.Splice as splice
+use Rattle.config.specs.Mode as mode
 use Rattle.block_value.specs.Value as value
+use Rattle.block_option.specs.Uint as uint
 use Rattle.block_option.specs.Option as option
 use Rattle.negotiation.specs.Negotiation as negotiation
 use Rattle.chunks.specs.Chunk as chunk
@@ -20,7 +22,7 @@ use Rattle.judge.specs.Limits as judge
 use Rattle.call.specs.Call as h
 
 unfoldable pub values : Unit {0}
-unfolding value.largestPower value.made value.sizeOf option.readOf negotiation.requestBlock negotiation.negotiated negotiation.within negotiation.replyAt chunk.chunkOf
+unfolding mode.optionBytes mode.numLimit mode.nums value.largestPower value.made value.sizeOf uint.uint uint.shortest option.readOf negotiation.requestBlock negotiation.negotiated negotiation.within negotiation.replyAt chunk.chunkOf
 values = tt
 
 unfoldable pub memories : Unit {0}

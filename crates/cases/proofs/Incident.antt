@@ -18,6 +18,7 @@ use Rattle.block_value.specs.Value.{sizeOf, blockSize, blockStart}
 use Rattle.block_value.specs.declared.BlockValue.{BlockValue}
 use Rattle.negotiation.specs.declared.MaybeBlock.the-variants.{Absent}
 use Rattle.config.specs.declared.Config.{Config}
+use Rattle.config.proofs.Mode.{limit-least}
 use Rattle.block_state.specs.declared.BlockState.{BlockState}
 use Rattle.block_state.specs.declared.Answer.the-variants.{Continue, Handed}
 use Rattle.block_state.specs.Message.{Request}
@@ -56,7 +57,7 @@ module _ (c : Config) (home at : ℕ) (s : BlockState) (u : List ℕ) (x j a l :
   replaced = patch u 0 (pieces.spliced (take l u) a (sizeOf x) (r .payload))
 
   carried : OneBlock c b r
-  carried = record { size = hx; count = hj; numbered = h .numbered; full = fills m; alone = h .alone; room = h .room }
+  carried = record { size = hx; count = omega (arith, hj, limit-least (c .strict)); numbered = h .numbered; full = fills m; alone = h .alone; room = h .room }
     where
       fills : (m : Bool) → Fills m (length (r .payload)) (sizeOf x)
       fills true = h .full

@@ -34,13 +34,13 @@ edgeCases =
     ∷ number (told (keyOk (replicate 65 1))) 0
     -- The least configuration and the largest; then one number off at a time.
     ∷ number (told (configOk (configured 1 1 16 16))) 1
-    ∷ number (told (configOk (configured 65535 4294967295 65536 65536))) 1
+    ∷ number (told (configOk (configured 65535 4294967295 16777216 65536))) 1
     ∷ number (told (configOk (configured 0 1 16 16))) 0
     ∷ number (told (configOk (configured 1 0 16 16))) 0
     ∷ number (told (configOk (configured 1 1 15 16))) 0
     ∷ number (told (configOk (configured 1 1 16 15))) 0
-    ∷ number (told (configOk (configured 65536 4294967295 65536 65536))) 0
-    ∷ number (told (configOk (configured 65535 4294967296 65536 65536))) 0
-    ∷ number (told (configOk (configured 65535 4294967295 65537 65536))) 0
-    ∷ number (told (configOk (configured 65535 4294967295 65536 65537))) 0
+    ∷ number (told (configOk (configured 65536 4294967295 16777216 65536))) 0
+    ∷ number (told (configOk (configured 65535 4294967296 16777216 65536))) 0
+    ∷ number (told (configOk (configured 65535 4294967295 16777217 65536))) 0
+    ∷ number (told (configOk (configured 65535 4294967295 16777216 65537))) 0
     ∷ []

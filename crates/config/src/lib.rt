@@ -1,5 +1,7 @@
-// The configuration, at the bottom: whatever reads, makes, writes or negotiates a block value takes it.
+// The configuration, at the bottom: whatever reads, makes, writes or negotiates a block value takes it; and the numbers that are a mode's.
 ghost use mathlib.Core.Path.{_≡_};
+ghost use Prim.Native.Nat.{_^_, _<_, _≤_};
+ghost use Rattle.config.specs.Mode.{optionBytes, numLimit};
 
 // BlockHandlerConfig in the Rust, with the mode and the sizes of the pieces.
 #[repr(C)]
@@ -31,4 +33,24 @@ pub fn default_config(strict: bool, upload: usize, response: usize) -> Config
         upload,
         response,
     }
+}
+
+// The most bytes of a Block option that is read.
+pub fn option_bytes(config: Config) -> usize
+    ensures { λ r. ⌜ (r ≡ optionBytes (config .strict)) × (r ≤ 3) ⌝ }
+{
+    if config.strict {
+        return 3;
+    }
+    2
+}
+
+// The largest num that is made.
+pub fn num_limit(config: Config) -> usize
+    ensures { λ r. ⌜ (r ≡ numLimit (config .strict)) × (r < 2 ^ 20) ⌝ }
+{
+    if config.strict {
+        return 1048575;
+    }
+    65535
 }

@@ -21,6 +21,7 @@ use Rattle.negotiation.specs.Negotiation.{requestBlock}
 use Rattle.negotiation.specs.declared.MaybeBlock.the-variants.{Absent, Given}
 use Rattle.negotiation.specs.declared.Negotiated.the-variants.{Block}
 use Rattle.config.specs.declared.Config.{Config}
+use Rattle.config.specs.Mode.{numLimit}
 use Rattle.block_state.specs.declared.Assembled.{Assembled}
 use Rattle.block_state.specs.declared.BlockState.{BlockState}
 use Rattle.block_state.specs.declared.Answer.the-variants.{Continue, Handed}
@@ -44,7 +45,7 @@ unmarked b = block (b .num) false (b .«size_exponent»)
 
 pub record OneBlock (c : Config) (b : BlockValue) (r : Request) : Type 0 where
   pub size : b .«size_exponent» ≤ 6
-  pub count : b .num ≤ 4095
+  pub count : b .num ≤ numLimit (c .strict)
   pub numbered : requestBlock c (r .block1) ≡ Given b
   pub full : Fills (b .more) (length (r .payload)) (blockSize b)
   pub alone : requestBlock c (r .block2) ≡ Absent
@@ -71,7 +72,7 @@ module _ (c : Config) (b : BlockValue) (r : Request) (one : OneBlock c b r) wher
   agreed =
       let p : ℕ = length (r .payload) in
       rw (one .numbered)
-      (pairing .asked c b (r .bare) p (one .room) (omega (arith, one .count)) (omega (arith, one .size))
+      (pairing .asked c b (r .bare) p (one .room) (one .count) (omega (arith, one .size))
       ∙ rw (le-ltb (blockStart b + blockSize b) p (omega (arith, fills-most))))
 
 -- ---- an upload under way

@@ -18,6 +18,8 @@ use Rattle.block_value.proofs.Laws.{size-most}
 use Rattle.negotiation.specs.Negotiation.{requestBlock}
 use Rattle.negotiation.specs.declared.MaybeBlock.the-variants.{Absent, Given}
 use Rattle.config.specs.declared.Config.{Config}
+use Rattle.config.specs.Mode.{numLimit}
+use Rattle.config.proofs.Mode.{nums-made}
 use Rattle.block_state.specs.declared.BlockState.{BlockState}
 use Rattle.block_state.specs.Message.{Request, request, WhatBytes}
 use Rattle.apart.specs.Answers.{said, continue}
@@ -315,9 +317,9 @@ module _ (c : Config) (k : Name) (named : keyOk k ≡ true) where
 
 -- what is asked of them, block by block
 pub each-block : (c : Config) (x : ℕ) (first : Sent) (rest : List Sent) → Blocks c x first rest → Each (λ j more r. OneBlock c (block j more x) r) 0 first rest
-each-block c x first rest b = from 0 first rest (omega (arith, b .count)) (b .numbered) (b .full) (b .alone) (b .room)
+each-block c x first rest b = from 0 first rest (omega (arith, b .count, nums-made (c .strict))) (b .numbered) (b .full) (b .alone) (b .room)
   where
-    from : (j : ℕ) (s : Sent) (rest : List Sent) → j + length rest ≤ 4095 → Each (λ j more r. requestBlock c (r .block1) ≡ Given (block j more x)) j s rest
+    from : (j : ℕ) (s : Sent) (rest : List Sent) → j + length rest ≤ numLimit (c .strict) → Each (λ j more r. requestBlock c (r .block1) ≡ Given (block j more x)) j s rest
         → Each (λ j more r. Fills more (length (r .payload)) (sizeOf x)) j s rest → Each (λ j more r. requestBlock c (r .block2) ≡ Absent) j s rest
         → Each (λ j more r. r .bare + 12 + sizeOf x ≤ c .limit) j s rest → Each (λ j more r. OneBlock c (block j more x) r) j s rest
     from j s [] h n f a r = record { size = b .size; count = omega arith; numbered = n; full = f; alone = a; room = r }

@@ -14,6 +14,7 @@ use Rattle.block_value.specs.declared.BlockValue.{BlockValue}
 use Rattle.negotiation.specs.Negotiation.{requestBlock}
 use Rattle.negotiation.specs.declared.MaybeBlock.the-variants.{Absent, Given}
 use Rattle.config.specs.declared.Config.{Config}
+use Rattle.config.specs.Mode.{nums}
 use Rattle.block_state.specs.declared.Answer.{Answer}
 use Rattle.block_state.specs.Message.{Request, What, request, response, WhatBytes}
 use Rattle.apart.specs.Answers.{said, continue, handed}
@@ -142,9 +143,9 @@ NothingInPlain c w time k =
 
 -- The client's blocks: `first` and then `rest`, each of 2 to the power x + 4 bytes.
 pub record Blocks (c : Config) (x : ℕ) (first : Sent) (rest : List Sent) : Type 0 where
-  -- "Its client sends blocks 0 to n-1 in order, n from 1 to 4096", where n is the length of first ∷ rest;
-  -- "all .. marked "more" but the last, which is .. unmarked": what the Block1 option of each reads as.
-  pub count : length (first ∷ rest) ≤ 4096
+  -- "Its client sends blocks 0 to n-1 in order, n from 1 to 4096", and "in strict mode .. up to 1,048,576" (document 02), where n is the length of first ∷ rest: as many
+  -- as the mode's nums; "all .. marked "more" but the last, which is .. unmarked": what the Block1 option of each reads as.
+  pub count : length (first ∷ rest) ≤ nums (c .strict)
   pub numbered : Each (λ j more r. requestBlock c (r .block1) ≡ Given (block j more x)) 0 first rest
   -- "One size from 16 to 1024 bytes": 2 to the power x + 4.
   pub size : x ≤ 6
@@ -172,7 +173,7 @@ pub record Push (c : Config) (w : World) (k : Name) (x : ℕ) (first : Sent) (re
   pub bytes : AllBytes (callOn k first ∷ later)
   pub blocks : Blocks c x first rest
 
--- The whole of it. "In either mode": nothing is said of c .strict but in `nothing`.
+-- The whole of it. "In either mode": nothing is said of c .strict but in `nothing`, and in how many blocks there may be.
 pub record Granted (c : Config) (w : World) (k : Name) (x : ℕ) (first : Sent) (rest : List Sent) (later : List Call) : Type 0 where
   -- "Take a key with a live entry or a free one to take ..
   pub entry : HasLive c w (first .time) k ⊎ HasFree c w (first .time)

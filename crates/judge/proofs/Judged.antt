@@ -1,5 +1,5 @@
 -- The verdict by its cases, and what a place tells. Assumes nothing.
-use Prim.Native.Nat.{ℕ, _+_, _*_, _≤_, _<_}
+use Prim.Native.Nat.{ℕ, _+_, _*_, _^_, _≤_, _<_}
 use mathlib.Core.Path.{_≡_, refl, sym, ap, _∙_}
 use mathlib.Core.Bool.{Bool, true, false, cond, not, _&&_}
 use mathlib.Core.List.{List}
@@ -36,7 +36,7 @@ use Rattle.judge.specs.Verdict.{messageOk, limitsOk, verdictAt, verdictO
 -- what the limits of a configuration tell
 pub record ConfigFits (c : Config) : Type 0 where
   pub lifetime : 1 ≤ c .lifetime
-  pub upload : c .upload ≤ 65536
+  pub upload : c .upload ≤ 16777216
   pub response : c .response ≤ 65536
 
 pub config-fits : (c : Config) → configOk c ≡ true → ConfigFits c
@@ -44,7 +44,7 @@ unfolding configOk
 config-fits c h =
     record {
       lifetime = leb-true 1 (c .lifetime) (search ands);
-      upload = leb-true (c .upload) 65536 (search ands);
+      upload = leb-true (c .upload) 16777216 (search ands);
       response = leb-true (c .response) 65536 (search ands);
     }
 
@@ -159,7 +159,7 @@ pub record AtPlace (c : Config) (t : Table) (time : ℕ) (key : Name) (n : Lengt
   -- the entry's pieces lie in the memories, which are small
   pub up : i * c .upload + c .upload ≤ n .upload
   pub down : i * c .response + c .response ≤ n .response
-  pub small : n .upload + n .response ≤ 2097152
+  pub small : n .upload + n .response < 2 ^ 32
   -- the row is as a sweep would leave it, or has to be swept
   pub kept : (freed : Bool) → all sized (t .entries) ≡ true → freed ≡ not (all (unexpired (c .lifetime) time) (t .entries))
       → cond freed (sweep (c .lifetime) time (t .entries)) (t .entries) ≡ sweep (c .lifetime) time (t .entries)

@@ -34,12 +34,12 @@ fn config_ok(config: Config) -> bool
 {
     between(1, wide::u64_of_usize(config.limit), 65535)
         & between(1, config.lifetime, 4294967295)
-        & between(16, wide::u64_of_usize(config.upload), 65536)
+        & between(16, wide::u64_of_usize(config.upload), 16777216)
         & between(16, wide::u64_of_usize(config.response), 65536)
 }
 
 fn memories_ok(config: Config, u: usize, v: usize) -> bool
-    requires { ⌜ (config .upload ≤ 65536) × (config .response ≤ 65536) ⌝ }
+    requires { ⌜ (config .upload ≤ 16777216) × (config .response ≤ 65536) ⌝ }
     ensures { λ r. ⌜ r ≡ memoriesOk config u v ⌝ }
 {
     (u == 16 * config.upload) & (v == 16 * config.response)

@@ -78,7 +78,7 @@ module _ (c : Config) (w : World) (q : Call) where
 
   module _ (sixteen : length (w .table .entries) ≡ 16) (limits : withinLimits c w q ≡ true) (clock : w .table .clock ≤ q .time) (found : there < 16) where
     -- The entry and its piece of a memory m, which has sixteen pieces of this size.
-    module _ (size : ℕ) (m : List ℕ) (small : size ≤ 65536) (whole : length m ≡ 16 * size) where
+    module _ (size : ℕ) (m : List ℕ) (small : size ≤ 16777216) (whole : length m ≡ 16 * size) where
       placed : there * size < 4294967296
       placed = omega (arith, piece-order there 16 size found)
 
@@ -102,9 +102,9 @@ module _ (c : Config) (w : World) (q : Call) where
         rw (
           lendable (c .upload) (w .upload) (config .upload) u,
           lt-ltb (there * c .upload) 4294967296 (placed (c .upload) (w .upload) (config .upload) u),
-          lt-ltb (there * c .response) 4294967296 (placed (c .response) (w .response) (config .response) v),
+          lt-ltb (there * c .response) 4294967296 (placed (c .response) (w .response) (omega (arith, config .response)) v),
         )
-    room-by config u v (response r) said = rw (lendable (c .response) (w .response) (config .response) v) (search ands)
+    room-by config u v (response r) said = rw (lendable (c .response) (w .response) (omega (arith, config .response)) v) (search ands)
 
     -- The checks before a call give all that a lent entry needs.
     has-room : roomAt c w (q .time) there own (q .what) ≡ true

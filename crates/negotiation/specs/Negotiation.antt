@@ -43,6 +43,6 @@ unfoldable pub within : Config → MaybeBlock → ℕ → ℕ → Negotiated
 within c Absent p m = cond (ltb p m) NoBlock (replyOf (made c 0 true m))
 within c (Given b) p m = replyAt c (blockStart b) (min (blockSize b) m) p
 
--- "If bare + 12 > T: refusal 4. Let m = T - bare - 12." T is the configuration's limit; nothing else of it counts.
+-- "If bare + 12 > T: refusal 4. Let m = T - bare - 12." T is the configuration's limit; besides it, the mode counts, where a value is made.
 unfoldable pub negotiated : Config → MaybeBlock → ℕ → ℕ → Negotiated
 negotiated c b bare p = cond (ltb (c .limit) (bare + 12)) (Refused 4) (within c b p (c .limit - bare - 12))

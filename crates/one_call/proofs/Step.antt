@@ -1,16 +1,22 @@
 -- What a step comes to, a law for each branch that the proofs need, and what the mode decides in it. Here and in Outcomes.antt alone they look into the steps. Assumes
 -- nothing.
-use Prim.Native.Nat.{ℕ}
-use mathlib.Core.Bool.{true, false, cond, false≢true, _&&_}
+use Prim.Native.Nat.{ℕ, _+_, _/_, _≤_, _<_}
+use mathlib.Core.Bool.{Bool, true, false, cond, false≢true, _&&_}
 use mathlib.Core.Path.{_≡_, refl, sym, _∙_, ap}
-use mathlib.Core.List.{List, [], _∷_}
+use mathlib.Core.List.{List}
 use mathlib.Core.Option.{Option, none, some}
+use native.Mathlib.Omega.{arith}
+use lib.Dec.{ltb}
 use lib.ListN.{length}
+use borrow.Author.Tests.{ltb-true, ltb-false, le-ltb}
+use Rattle.pieces.proofs.Tests.{by-cases}
+use Rattle.config.specs.Mode.{numLimit}
+use Rattle.config.proofs.Mode.{bytes-least, bytes-most, limit-least}
 use Rattle.splicing.specs.Splice.{spliceOf, pieceAfter}
 use Rattle.splicing.specs.declared.Splice.{Splice}
 use Rattle.splicing.specs.declared.Splice.the-variants as splice
 use Rattle.block_value.specs.Value.{made, blockSize, blockStart}
-use Rattle.block_option.specs.Option.{readOf}
+use Rattle.block_option.proofs.Laws.{read-few, read-long}
 use Rattle.block_value.specs.declared.BlockValue.{BlockValue}
 use Rattle.negotiation.specs.Negotiation.{requestBlock, negotiated, within, replyAt}
 use Rattle.negotiation.specs.declared.MaybeBlock.{MaybeBlock}
@@ -33,24 +39,39 @@ use Rattle.request_block1.proofs.Taking.{taken-bad, taken-not-next, taken-next}
 use Rattle.request_block2.proofs.Serving.{onward-absent}
 use Rattle.request_step.proofs.Steps as steps
 use Rattle.response_step.specs.Step.{chunked, onReply, stepResponse}
+use Rattle.pairing.specs.Pairing.{roomOf, granted}
 use Rattle.one_call.specs.Agreed.{requestAgrees}
-use Rattle.one_call.specs.Strict.{plainly}
+use Rattle.one_call.specs.Strict.{plainly, ReadAlike, MadeAlike}
 use Rattle.one_call.proofs.Checks.{meets-all}
 
--- ---- the mode decides nothing in what is read and negotiated
+-- ---- what both modes read and negotiate alike
 
-read-plainly : (c : Config) (o : Option (List ℕ)) → requestBlock c o ≡ requestBlock (plainly c) o
-unfolding requestBlock readOf
-read-plainly c none = refl
-read-plainly c (some []) = refl
-read-plainly c (some (x ∷ [])) = refl
-read-plainly c (some (x ∷ y ∷ [])) = refl
-read-plainly c (some (x ∷ y ∷ v ∷ l)) = refl
+read-plainly : (c : Config) (o : Option (List ℕ)) → ReadAlike o → requestBlock c o ≡ requestBlock (plainly c) o
+unfolding requestBlock
+read-plainly c none h = refl
+read-plainly c (some bytes) h =
+    by-cases (ltb 2 (length bytes))
+    (λ y.
+    let four : 3 < length bytes = past (ltb-true 2 (length bytes) y) in
+    rw (read-long c bytes (omega (arith, bytes-most (c .strict))), read-long (plainly c) bytes (omega (arith, bytes-most false))))
+    (λ n.
+    let two : length bytes ≤ 2 = ltb-false 2 (length bytes) n in
+    rw (read-few c bytes (omega (arith, bytes-least (c .strict))), read-few (plainly c) bytes (omega (arith, bytes-least false))))
+  where
+    past : 2 < length bytes → 3 < length bytes
+    past l = omega (arith, h)
 
-agreed-plainly : (c : Config) (b : MaybeBlock) (bare p : ℕ) → negotiated c b bare p ≡ negotiated (plainly c) b bare p
-unfolding negotiated within replyAt made
-agreed-plainly c Absent bare p = refl
-agreed-plainly c (Given b) bare p = refl
+made-plainly : (c : Config) (num : ℕ) (more : Bool) (size : ℕ) → num ≤ 65535 → made c num more size ≡ made (plainly c) num more size
+unfolding made
+made-plainly c num more size h =
+    rw (le-ltb (numLimit (c .strict)) num (omega (arith, limit-least (c .strict))), le-ltb (numLimit false) num (omega (arith, limit-least false)))
+
+agreed-plainly : (c : Config) (b : MaybeBlock) (bare p : ℕ) → MadeAlike c b bare → negotiated c b bare p ≡ negotiated (plainly c) b bare p
+unfolding negotiated within replyAt
+agreed-plainly c Absent bare p h = rw (made-plainly c 0 true (roomOf c bare) h)
+agreed-plainly c (Given b) bare p h =
+    let g : ℕ = granted (Given b) (roomOf c bare) in
+    rw (made-plainly c (blockStart b / g) (ltb (blockStart b + g) p) g h)
 
 -- ---- a request's step
 
@@ -145,10 +166,11 @@ module _ (c : Config) (home away : ℕ) (s : BlockState) (u : List ℕ) (r : Req
   on-same (Given b) (agreed.Block reply) unchecked = given-same b reply (unchecked b refl)
 
   -- then the step is plain mode's
-  pub step-plainly : ((b : BlockValue) → requestBlock c (r .block1) ≡ Given b → Unchecked b) → step ≡ stepRequest (plainly c) home away s u r
+  pub step-plainly : ReadAlike (r .block1) → ReadAlike (r .block2) → MadeAlike c (requestBlock c (r .block1)) (r .bare)
+      → ((b : BlockValue) → requestBlock c (r .block1) ≡ Given b → Unchecked b) → step ≡ stepRequest (plainly c) home away s u r
   unfolding stepRequest
-  step-plainly unchecked =
-      rw (← read-plainly c (r .block1), ← read-plainly c (r .block2), ← agreed-plainly c (requestBlock c (r .block1)) (r .bare) p)
+  step-plainly one two made unchecked =
+      rw (← read-plainly c (r .block1) one, ← read-plainly c (r .block2) two, ← agreed-plainly c (requestBlock c (r .block1)) (r .bare) p made)
       (on-same (requestBlock c (r .block1)) (requestAgrees c r) unchecked)
 
 -- ---- a response's step
@@ -170,9 +192,9 @@ module _ (c : Config) (s : BlockState) (d : List ℕ) (r : Response) where
   reply-same agreed.NoBlock = refl
   reply-same (agreed.Block b) = chunk-same _
 
-  -- the mode decides nothing in it
-  pub response-plainly : stepResponse c s d r ≡ stepResponse (plainly c) s d r
+  -- and so for it
+  pub response-plainly : MadeAlike c (recordedBlock (s .recorded)) (r .bare) → stepResponse c s d r ≡ stepResponse (plainly c) s d r
   unfolding stepResponse
-  response-plainly =
-      rw (← agreed-plainly c (recordedBlock (s .recorded)) (r .bare) (length (r .payload)))
+  response-plainly made =
+      rw (← agreed-plainly c (recordedBlock (s .recorded)) (r .bare) (length (r .payload)) made)
       (ap (λ (g : Left). cond (r .own) (left s d Plain) g) (reply-same _))

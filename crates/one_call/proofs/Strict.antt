@@ -1,9 +1,9 @@
 -- STRICT MODE SAYS NO. Assumes nothing.
-use Prim.Native.Nat.{ℕ, _+_, _*_, _%_, _≤_, _<_}
+use Prim.Native.Nat.{ℕ, _≤_, _<_}
 use mathlib.Core.Bool.{true, false, false≢true, _&&_}
 use mathlib.Core.Path.{_≡_, refl}
 use mathlib.Core.Logic.{inl, inr, ⊎-elim}
-use mathlib.Core.List.{List, [], _∷_}
+use mathlib.Core.List.{List}
 use mathlib.Core.Option.{Option, none as no-option, some}
 use native.Mathlib.Omega.{arith}
 use lib.ListN.{length}
@@ -12,8 +12,11 @@ use borrow.Author.Tests.{eqb-true, eqb-false}
 use Rattle.pieces.proofs.Tests.{and-left, and-right, by-cases, refute}
 use Rattle.block_value.specs.Value.{blockSize}
 use Rattle.block_option.specs.Option.{readOf}
+use Rattle.block_option.specs.declared.Reading.{Reading}
+use Rattle.block_option.specs.declared.Reading.the-variants.{Value, Unreadable}
+use Rattle.block_option.proofs.Laws.{read-exponent}
 use Rattle.block_value.specs.declared.BlockValue.{BlockValue}
-use Rattle.negotiation.specs.Negotiation.{requestBlock}
+use Rattle.negotiation.specs.Negotiation.{counted, requestBlock}
 use Rattle.negotiation.specs.declared.MaybeBlock.the-variants.{Given}
 use Rattle.negotiation.specs.declared.Negotiated.the-variants as agreed
 use Rattle.config.specs.declared.Config.{Config}
@@ -30,9 +33,9 @@ use Rattle.block_table.specs.Table.{tableOk}
 use Rattle.judge.specs.Limits.{configOk, memoriesOk}
 use Rattle.call.specs.Call.{World, Call, callAt, withinLimits, call}
 use Rattle.pairing.proofs.Pairing.{refusal-number}
-use Rattle.one_call.specs.Agreed.{requestAgrees}
+use Rattle.one_call.specs.Agreed.{recordedFor, requestAgrees}
 use Rattle.one_call.specs.Touch.{RefusesTo}
-use Rattle.one_call.specs.Strict.{tookBlock, assembledFor, RightlyTaken, BadlyFormed, Misplaced, PassesFive, plainly, Fine, StrictSaysNo}
+use Rattle.one_call.specs.Strict.{tookBlock, assembledFor, RightlyTaken, BadlyFormed, Misplaced, PassesFive, plainly, ReadAlike, MadeAlike, Fine, StrictSaysNo}
 use Rattle.one_call.proofs.Checks.{and-none, bad-is, bad-as, bad-not, not-bad, passed-next, misplaced-is, misplaced-as, meets-all}
 use Rattle.one_call.proofs.Step.{step-bad, step-astray, Unchecked, step-plainly, response-plainly}
 use Rattle.one_call.proofs.Outcomes.{openedOf, TookBlock, Why, unagreed, badly, astray, unspliced, Outcome, refused, past, tooLarge, continued, onwards, serves, none, took, answered}
@@ -62,12 +65,13 @@ good-is c l r b given e7 good passed =
 
 -- an exponent that was read is three bits
 exponent-read : (c : Config) (o : Option (List ℕ)) (b : BlockValue) → requestBlock c o ≡ Given b → b .«size_exponent» ≤ 7
-unfolding requestBlock readOf
+unfolding requestBlock
 exponent-read c no-option b e = let z : _≡_ {A = ℕ} 0 1 = cc in absurd (omega arith)
-exponent-read c (some []) b e = let z : b .«size_exponent» ≡ 0 % 8 = cc in omega arith
-exponent-read c (some (x ∷ [])) b e = let z : b .«size_exponent» ≡ x % 8 = cc in omega arith
-exponent-read c (some (x ∷ y ∷ [])) b e = let z : b .«size_exponent» ≡ (x * 256 + y) % 8 = cc in omega arith
-exponent-read c (some (x ∷ y ∷ v ∷ l)) b e = let z : _≡_ {A = ℕ} 0 1 = cc in absurd (omega arith)
+exponent-read c (some bytes) b e = of (readOf c bytes) refl e
+  where
+    of : (r : Reading) → readOf c bytes ≡ r → counted r ≡ Given b → b .«size_exponent» ≤ 7
+    of (Value v) is same = let z : v ≡ b = cc in rw (← z) (read-exponent c bytes v is)
+    of Unreadable is same = let z : _≡_ {A = ℕ} 0 1 = cc in absurd (omega arith)
 
 -- ---- a block that was taken
 
@@ -169,13 +173,16 @@ unfolding assembledOk cachedOk stateOk entryOk tableOk configOk memoriesOk withi
 limits-plainly c w q = refl
 
 all-else : (c : Config) (w : World) (q : Call) (r : Request) → q .what ≡ request r
+    → ReadAlike (r .block1) → ReadAlike (r .block2) → MadeAlike c (requestBlock c (r .block1)) (r .bare)
     → ((b : BlockValue) → requestBlock c (r .block1) ≡ Given b → Fine (assembledFor c w q) (length (r .payload)) b) → call c w q ≡ call (plainly c) w q
 unfolding call callAt
-all-else c w q r e f = rw (limits-plainly c w q, e, step-plainly c _ _ (openedOf c w q .state) _ r (λ b given. unchecked c _ _ _ _ r b (f b given)))
+all-else c w q r e one two made f =
+    rw (limits-plainly c w q, e, step-plainly c _ _ (openedOf c w q .state) _ r one two made (λ b given. unchecked c _ _ _ _ r b (f b given)))
 
-of-responses : (c : Config) (w : World) (q : Call) (r : Response) → q .what ≡ response r → call c w q ≡ call (plainly c) w q
+of-responses : (c : Config) (w : World) (q : Call) (r : Response) → q .what ≡ response r → MadeAlike c (recordedFor c w q) (r .bare)
+    → call c w q ≡ call (plainly c) w q
 unfolding call callAt
-of-responses c w q r e = rw (limits-plainly c w q, e, response-plainly c (openedOf c w q .state) _ r)
+of-responses c w q r e made = rw (limits-plainly c w q, e, response-plainly c (openedOf c w q .state) _ r made)
 
 -- STRICT MODE SAYS NO
 pub strict-says-no : StrictSaysNo call

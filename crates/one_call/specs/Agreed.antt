@@ -7,6 +7,7 @@ use lib.ListN.{length}
 use Rattle.block_value.specs.declared.BlockValue.{BlockValue}
 use Rattle.negotiation.specs.Negotiation.{requestBlock, negotiated}
 use Rattle.chunks.specs.Chunk.{chunkBlock}
+use Rattle.negotiation.specs.declared.MaybeBlock.{MaybeBlock}
 use Rattle.negotiation.specs.declared.MaybeBlock.the-variants.{Given}
 use Rattle.negotiation.specs.declared.Negotiated.{Negotiated}
 use Rattle.negotiation.specs.declared.Negotiated.the-variants.{Block, Refused}
@@ -23,10 +24,13 @@ use Rattle.one_call.specs.Touch.{Placed, RefusesTo}
 abbrev pub requestAgrees : Config → Request → Negotiated
 requestAgrees c r = negotiated c (requestBlock c (r .block1)) (r .bare) (length (r .payload))
 
+-- The Block2 value that is recorded for the call's key, or none.
+abbrev pub recordedFor : Config → World → Call → MaybeBlock
+recordedFor c w q = recordedBlock (opened (q .key) (rowOf c w q) .state .recorded)
+
 -- A response without a Block2 option of its own negotiates with the Block2 value that is recorded for its key.
 abbrev pub responseAgrees : Config → World → Call → Response → Negotiated
-responseAgrees c w q r =
-    negotiated c (recordedBlock (opened (q .key) (rowOf c w q) .state .recorded)) (r .bare) (length (r .payload))
+responseAgrees c w q r = negotiated c (recordedFor c w q) (r .bare) (length (r .payload))
 
 pub record Agrees (h : Handler) : Type 0 where
   -- A call that has its place, and whose negotiation gives a refusal (4 or 5), gets that refusal and changes nothing but the touch.

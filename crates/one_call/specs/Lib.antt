@@ -1,5 +1,5 @@
 pub mod Handler
 pub mod Touch
-pub mod Strict
 pub mod Agreed
+pub mod Strict
 pub mod Refusals

@@ -4,6 +4,8 @@ use Prim.Native.Nat.{ℕ, _≤_, _<_}
 use mathlib.Core.Bool.{Bool, true, false}
 use mathlib.Core.Path.{_≡_}
 use mathlib.Core.Logic.{_⊎_}
+use mathlib.Core.List.{List}
+use mathlib.Core.Option.{Option, none, some}
 use lib.ListN.{length}
 use Rattle.block_value.specs.Value.{blockSize, blockStart}
 use Rattle.block_value.specs.declared.BlockValue.{BlockValue}
@@ -18,8 +20,10 @@ use Rattle.block_state.specs.declared.Answer.the-variants.{Continue, TooLarge, 
 use Rattle.block_state.specs.Message.{Request, Response, request, response}
 use Rattle.places.specs.Places.{opened}
 use Rattle.call.specs.Call.{World, Call, rowOf}
+use Rattle.pairing.specs.Pairing.{roomOf, granted, numFor}
 use Rattle.one_call.specs.Handler.{Handler}
 use Rattle.one_call.specs.Touch.{Placed, RefusesTo}
+use Rattle.one_call.specs.Agreed.{recordedFor}
 
 abbrev pub isGiven : MaybeBlock → Bool
 isGiven Absent = false
@@ -77,6 +81,15 @@ pub record PassesFive (c : Config) (w : World) (q : Call) (r : Request) (b : Blo
 abbrev pub plainly : Config → Config
 plainly c = record { strict = false; limit = c .limit; lifetime = c .lifetime; upload = c .upload; response = c .response }
 
+-- An option that both modes read alike: not one of three bytes, which only strict mode reads (document 02).
+abbrev pub ReadAlike : Option (List ℕ) → Type 0
+ReadAlike none = Unit {0}
+ReadAlike (some bytes) = length bytes ≡ 3 → ⊥
+
+-- A reply that both modes make alike: its num is within plain mode's limit.
+abbrev pub MadeAlike : Config → MaybeBlock → ℕ → Type 0
+MadeAlike c b bare = numFor b (granted b (roomOf c bare)) ≤ 65535
+
 -- A block that strict mode has nothing to say of: well formed, not misplaced, and if it is block 0, over nothing assembled.
 pub record Fine (l : Assembled) (p : ℕ) (b : BlockValue) : Type 0 where
   pub well : BadlyFormed b p → ⊥
@@ -99,7 +112,9 @@ pub record StrictSaysNo (h : Handler) : Type 0 where
   -- And 9 only then, in strict mode.
   pub nineOnly : (c : Config) (w : World) (q : Call) (r : Request) → q .what ≡ request r → h c w q .answer ≡ Refused 9
       → (c .strict ≡ true) × (b : BlockValue) × (requestBlock c (r .block1) ≡ Given b) × (BadlyFormed b (length (r .payload)) → ⊥) × Misplaced (assembledFor c w q) b
-  -- "All else is as in plain mode": a request with no Block1 value or a fine one, and any response, is answered and leaves just what it does in plain mode.
-  pub allElse : (c : Config) (w : World) (q : Call) (r : Request) → q .what ≡ request r
+  -- "All else is as in plain mode": a request with no Block1 value or a fine one, and any response, is answered and leaves just what it does in plain mode, unless it has
+  -- an option of three bytes or a reply's num is above 65,535.
+  pub allElse : (c : Config) (w : World) (q : Call) (r : Request) → q .what ≡ request r → ReadAlike (r .block1) → ReadAlike (r .block2)
+      → MadeAlike c (requestBlock c (r .block1)) (r .bare)
       → ((b : BlockValue) → requestBlock c (r .block1) ≡ Given b → Fine (assembledFor c w q) (length (r .payload)) b) → h c w q ≡ h (plainly c) w q
-  pub responses : (c : Config) (w : World) (q : Call) (r : Response) → q .what ≡ response r → h c w q ≡ h (plainly c) w q
+  pub responses : (c : Config) (w : World) (q : Call) (r : Response) → q .what ≡ response r → MadeAlike c (recordedFor c w q) (r .bare) → h c w q ≡ h (plainly c) w q

@@ -10,6 +10,7 @@ use lib.Pow.{pow-add, pow-mono}
 use borrow.Author.Tests.{ltb-true, ltb-false, leb-true, leb-false, eqb-true}
 use Rattle.pieces.proofs.Tests.{by-cases, clash-of}
 use Rattle.config.specs.declared.Config.{Config}
+use Rattle.config.specs.Mode.{numLimit}
 use Rattle.block_value.specs.Value.{largestPower, exponentOf, made, sizeOf, blockSize, blockStart}
 use Rattle.block_value.specs.declared.BlockValue.{BlockValue}
 use Rattle.block_value.proofs.Laws.{size-is, size-least, size-most, exponent-size, made-zero, made-large, made-far, made-well}
@@ -80,8 +81,8 @@ module _ (g : ℕ) (least : 1 ≤ g) where
 module _ (c : Config) (n : ℕ) (more : Bool) (g : ℕ) where
   -- the make, by its cases
   data Came : Negotiated → Type 0 where
-    refused : (g ≡ 0) ⊎ (4096 ≤ g) ⊎ (65535 < n) → Came (Refused 5)
-    block : 1 ≤ g → g < 4096 → n ≤ 65535 → Came (Block (record { num = n; more = more; «size_exponent» = exponentOf g }))
+    refused : (g ≡ 0) ⊎ (4096 ≤ g) ⊎ (numLimit (c .strict) < n) → Came (Refused 5)
+    block : 1 ≤ g → g < 4096 → n ≤ numLimit (c .strict) → Came (Block (record { num = n; more = more; «size_exponent» = exponentOf g }))
 
   came : Came (replyOf (made c n more g))
   came =
@@ -94,10 +95,13 @@ module _ (c : Config) (n : ℕ) (more : Bool) (g : ℕ) where
       (λ o.
       let b : g < 4096 = leb-false 4096 g o in
       let e7 = exponent-7 g (omega (arith, nz)) b in
-      by-cases (ltb 65535 n)
-      (λ y. let f : 65535 < n = ltb-true 65535 n y in rw (made-far c n more g nz e7 f) (refused (inr (inr f))))
-      (λ u. let f : n ≤ 65535 = ltb-false 65535 n u in rw (made-well c n more g nz (exponentOf g) refl e7 f) (block (omega (arith, nz)) b f))))
+      by-cases (ltb limit n)
+      (λ y. let f : limit < n = ltb-true limit n y in rw (made-far c n more g nz e7 f) (refused (inr (inr f))))
+      (λ u. let f : n ≤ limit = ltb-false limit n u in rw (made-well c n more g nz (exponentOf g) refl e7 f) (block (omega (arith, nz)) b f))))
     where
+      limit : ℕ
+      limit = numLimit (c .strict)
+
       zero-clash : (t : Bool) → eqb g 0 ≡ false → g ≡ 0 → ⊥
       zero-clash t z e = let w : eqb 0 0 ≡ false = rw e at z in absurd (clash-of true refl w)
 
@@ -172,20 +176,20 @@ module _ (c : Config) (b : MaybeBlock) (bare p : ℕ) where
   four-only y (answered h n _ (refused u)) e = absurd (five-is-not-four e)
   four-only y (answered h n _ (block l m o)) e = block-is-not _ 4 e
 
-  five-when : bare + 12 ≤ c .limit → Needed b p room → Unmakeable b room → (y : Negotiated) → Out c b bare p y → y ≡ Refused 5
+  five-when : bare + 12 ≤ c .limit → Needed b p room → Unmakeable c b room → (y : Negotiated) → Out c b bare p y → y ≡ Refused 5
   five-when h need u y (four l) = absurd (omega arith)
   five-when h need u y (none l n) = absurd (n need)
   five-when h need u y (answered l n _ (refused v)) = refl
   five-when h need u y (answered l n _ (block a below d)) =
-      absurd (⊎-elim (λ (e : gr ≡ 0). omega arith) (⊎-elim (λ (e : 4096 ≤ gr). omega arith) (λ (e : 65535 < numFor b gr). omega arith)) u)
+      absurd (⊎-elim (λ (e : gr ≡ 0). omega arith) (⊎-elim (λ (e : 4096 ≤ gr). omega arith) (λ (e : numLimit (c .strict) < numFor b gr). omega arith)) u)
 
-  five-only : (y : Negotiated) → Out c b bare p y → y ≡ Refused 5 → Unmakeable b room
+  five-only : (y : Negotiated) → Out c b bare p y → y ≡ Refused 5 → Unmakeable c b room
   five-only y (four h) e = absurd (five-is-not-four (sym e))
   five-only y (none h n) e = none-is-not 5 e
   five-only y (answered h n _ (refused u)) e = u
   five-only y (answered h n _ (block l m o)) e = block-is-not _ 5 e
 
-  made-when : bare + 12 ≤ c .limit → Needed b p room → (Unmakeable b room → ⊥) → (y : Negotiated) → Out c b bare p y → (r : BlockValue) × (y ≡ Block r)
+  made-when : bare + 12 ≤ c .limit → Needed b p room → (Unmakeable c b room → ⊥) → (y : Negotiated) → Out c b bare p y → (r : BlockValue) × (y ≡ Block r)
   made-when h need u y (four l) = absurd (omega arith)
   made-when h need u y (none l n) = absurd (n need)
   made-when h need u y (answered l n _ (refused v)) = absurd (u v)

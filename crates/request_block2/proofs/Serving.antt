@@ -55,8 +55,8 @@ module _ (at : ℕ) (s : BlockState) (u : List ℕ) (block2 block1 : MaybeBlock)
 -- ---- what it leaves keeps the limits, and the piece stays as it was
 
 module _ (c : Config) where
-  recorded-fits : (s : BlockState) (b : MaybeBlock) → Held 4095 b → StateFits c s → StateFits c (withRecorded s b)
-  recorded-fits s b h f = record { assembled = f .assembled; cached = f .cached; recorded = recording-ok 4095 b (omega arith) h }
+  recorded-fits : (s : BlockState) (b : MaybeBlock) → Held 1048575 b → StateFits c s → StateFits c (withRecorded s b)
+  recorded-fits s b h f = record { assembled = f .assembled; cached = f .cached; recorded = recording-ok 1048575 b (omega arith) h }
 
   served-keeps : (n at : ℕ) (s : BlockState) (u : List ℕ) (block1 : MaybeBlock) (g : Chunk) → StateFits c s → length u ≡ n
       → Keeps c n (served at s u block1 g)
@@ -65,7 +65,7 @@ module _ (c : Config) where
   served-keeps n at s u block1 (chunk.Bytes b from to) f h =
       record { state = record { assembled = f .assembled; cached = kept-ok c (b .more) (s .cached) (f .cached); recorded = f .recorded }; piece = h }
 
-  pub onward-keeps : (n at : ℕ) (s : BlockState) (u : List ℕ) (b block1 : MaybeBlock) (a : Answer) → Held 4095 b → StateFits c s → length u ≡ n
+  pub onward-keeps : (n at : ℕ) (s : BlockState) (u : List ℕ) (b block1 : MaybeBlock) (a : Answer) → Held 1048575 b → StateFits c s → length u ≡ n
       → Keeps c n (onward at s u b block1 a)
   unfolding onward
   onward-keeps n at s u Absent block1 a held f h = as-it-was c n (withRecorded s Absent) u a (recorded-fits s Absent held f) h

@@ -1,13 +1,17 @@
 -- Whatever a request says, its step keeps its state within the limits and its piece as long as it was. Assumes nothing.
 use Prim.Native.Nat.{ℕ, _≤_}
-use mathlib.Core.Path.{_≡_}
-use mathlib.Core.List.{List, [], _∷_}
+use mathlib.Core.Path.{_≡_, refl}
+use mathlib.Core.List.{List}
 use mathlib.Core.Option.{Option, none, some}
 use native.Mathlib.Omega.{arith}
 use lib.ListN.{length}
 use Rattle.block_value.specs.declared.BlockValue.{BlockValue}
+use Rattle.config.proofs.Mode.{nums-most}
 use Rattle.block_option.specs.Option.{readOf}
-use Rattle.negotiation.specs.Negotiation.{requestBlock, negotiated}
+use Rattle.block_option.specs.declared.Reading.{Reading}
+use Rattle.block_option.specs.declared.Reading.the-variants.{Value, Unreadable}
+use Rattle.block_option.proofs.Laws.{read-num, read-exponent}
+use Rattle.negotiation.specs.Negotiation.{counted, requestBlock, negotiated}
 use Rattle.negotiation.specs.declared.MaybeBlock.{MaybeBlock}
 use Rattle.negotiation.specs.declared.MaybeBlock.the-variants.{Absent, Given}
 use Rattle.negotiation.specs.declared.Negotiated.{Negotiated}
@@ -28,18 +32,19 @@ use Rattle.request_block1.proofs.Taking.{Holds, taken-holds}
 use Rattle.request_block2.proofs.Serving.{onward-keeps}
 
 -- what an option can hold
-pub read-held : (c : Config) (o : Option (List ℕ)) → OptionBytes o → Held 4095 (requestBlock c o)
-unfolding requestBlock readOf
+pub read-held : (c : Config) (o : Option (List ℕ)) → OptionBytes o → Held 1048575 (requestBlock c o)
+unfolding requestBlock
 read-held c none h = tt
-read-held c (some []) h = (omega arith, omega arith)
-read-held c (some (a ∷ [])) h = (omega (arith, h .0), omega arith)
-read-held c (some (a ∷ b ∷ [])) h = (omega (arith, h .0, h .1), omega arith)
-read-held c (some (a ∷ b ∷ d ∷ rest)) h = tt
+read-held c (some bytes) h = of (readOf c bytes) refl
+  where
+    of : (r : Reading) → readOf c bytes ≡ r → Held 1048575 (counted r)
+    of (Value b) e = (omega (arith, read-num c bytes b h e, nums-most (c .strict)), read-exponent c bytes b e)
+    of Unreadable e = tt
 
 module _ (c : Config) where
   taken-keeps : (home at : ℕ) (s : BlockState) (u : List ℕ) (block2 : MaybeBlock) (payload : List ℕ) (b reply : BlockValue) (t : Taken)
       → (fits : s .assembled .len ≤ c .upload) (size : length u ≡ c .upload) → Holds c (s .assembled) u b payload fits size t
-      → b .«size_exponent» ≤ 7 → Held 4095 block2 → StateFits c s
+      → b .«size_exponent» ≤ 7 → Held 1048575 block2 → StateFits c s
       → Keeps c (c .upload) (onTaken home at s (pieceTaken c (s .assembled) u b payload t) block2 (b .«size_exponent») reply t)
   taken-keeps home at s u block2 payload b reply (block.Refused n) fits size k x o f = as-it-was c (c .upload) s u (Refused n) f size
   taken-keeps home at s u block2 payload b reply (block.More n) fits size k x o f =
@@ -50,7 +55,7 @@ module _ (c : Config) where
       (record { assembled = assembly-ok c 0 0 (omega arith) (omega arith); cached = f .cached; recorded = f .recorded }) (k .1)
 
   block1-keeps : (home at : ℕ) (s : BlockState) (u : List ℕ) (block2 : MaybeBlock) (payload : List ℕ) (b reply : BlockValue)
-      → b .«size_exponent» ≤ 7 → Held 4095 block2 → StateFits c s → length u ≡ c .upload
+      → b .«size_exponent» ≤ 7 → Held 1048575 block2 → StateFits c s → length u ≡ c .upload
       → Keeps c (c .upload) (block1Given c home at s u block2 payload b reply)
   unfolding block1Given
   block1-keeps home at s u block2 payload b reply x o f h =
@@ -58,7 +63,7 @@ module _ (c : Config) where
       taken-keeps home at s u block2 payload b reply (taken c (s .assembled) b (length payload)) fits h (taken-holds c (s .assembled) u b payload fits h) x o f
 
   negotiated-keeps : (home at : ℕ) (s : BlockState) (u : List ℕ) (block2 : MaybeBlock) (payload : List ℕ) (b : MaybeBlock) (g : Negotiated)
-      → Held 4095 b → Held 4095 block2 → StateFits c s → length u ≡ c .upload
+      → Held 1048575 b → Held 1048575 block2 → StateFits c s → length u ≡ c .upload
       → Keeps c (c .upload) (onNegotiated c home at s u block2 payload b g)
   unfolding onNegotiated
   negotiated-keeps home at s u block2 payload b (agreed.Refused n) held o f h = as-it-was c (c .upload) s u (Refused n) f h

@@ -1,0 +1,48 @@
+-- The laws of the mode's numbers. Assumes nothing.
+use Prim.Native.Nat.{suc, _*_, _^_, _≤_}
+use mathlib.Core.Bool.{Bool, true, false}
+use mathlib.Core.Path.{_≡_, refl}
+use native.Mathlib.Omega.{arith}
+use Rattle.config.specs.Mode.{optionBytes, numLimit, nums}
+
+pub bytes-most : (strict : Bool) → optionBytes strict ≤ 3
+unfolding optionBytes
+bytes-most true = omega arith
+bytes-most false = omega arith
+
+pub bytes-least : (strict : Bool) → 2 ≤ optionBytes strict
+unfolding optionBytes
+bytes-least true = omega arith
+bytes-least false = omega arith
+
+pub limit-least : (strict : Bool) → 65535 ≤ numLimit strict
+unfolding numLimit
+limit-least true = omega arith
+limit-least false = omega arith
+
+pub limit-most : (strict : Bool) → numLimit strict ≤ 1048575
+unfolding numLimit
+limit-most true = omega arith
+limit-most false = omega arith
+
+pub nums-most : (strict : Bool) → nums strict ≤ 1048576
+unfolding nums optionBytes
+nums-most true = omega arith
+nums-most false = omega arith
+
+pub nums-least : (strict : Bool) → 1 ≤ nums strict
+unfolding nums optionBytes
+nums-least true = omega arith
+nums-least false = omega arith
+
+-- a num that an option can hold can be made
+pub nums-made : (strict : Bool) → nums strict ≤ suc (numLimit strict)
+unfolding nums optionBytes numLimit
+nums-made true = omega arith
+nums-made false = omega arith
+
+-- with its four other bits, a num takes up the option's bytes
+pub nums-bytes : (strict : Bool) → nums strict * 16 ≡ 256 ^ optionBytes strict
+unfolding nums optionBytes
+nums-bytes true = refl
+nums-bytes false = refl
