@@ -110,7 +110,7 @@ pub struct Generator {
 /// The block value that the call negotiates with, if it has one and there is enough room for the message, and the g of document 01.
 fn negotiated(model: &Model, t: u64, call: &Call) -> Option<(Block, u64)> {
     let block = match &call.what {
-        What::Request { block1, .. } => counted(block1),
+        What::Request { block1, .. } => counted(false, block1),
         What::Response { own: true, .. } => None,
         What::Response { .. } => model.look(&call.key).recorded,
     }?;
@@ -439,7 +439,7 @@ impl Generator {
             calls.push(self.answer_call(bare, n));
         }
         // Fetched in the size that was answered, the one asked for, or any.
-        let answered = Block::make(0, true, s.min(m)).map_or(e, |b| b.exponent);
+        let answered = Block::make(false, 0, true, s.min(m)).map_or(e, |b| b.exponent);
         let f = match self.random.below(4) {
             0 => self.exponent(),
             1 => e,

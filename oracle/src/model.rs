@@ -1,4 +1,5 @@
-//! Document 01 in plain Rust, written from its text alone: no word of the Rust module is used here. Its sections are the headings below.
+//! Document 01 in plain Rust, with document 02's longer lists, written from their text alone: no word of the Rust module is used here. Document 01's sections are the
+//! headings below.
 
 use crate::script::{Answer, Call, Config, Shown, What};
 
@@ -16,9 +17,10 @@ pub struct Block {
 }
 
 impl Block {
-    pub fn make(num: u64, more: bool, size: u64) -> Option<Block> {
+    pub fn make(strict: bool, num: u64, more: bool, size: u64) -> Option<Block> {
         let exponent = (size.checked_ilog2()? as u8).saturating_sub(4);
-        (exponent <= 7 && num <= 65_535).then_some(Block { num, more, exponent })
+        let most = if strict { 1_048_575 } else { 65_535 };
+        (exponent <= 7 && num <= most).then_some(Block { num, more, exponent })
     }
 
     pub fn size(self) -> u64 {
@@ -30,11 +32,12 @@ impl Block {
         self.num * self.size()
     }
 
-    pub fn read(option: &[u8]) -> Option<Block> {
+    pub fn read(strict: bool, option: &[u8]) -> Option<Block> {
         let n = match *option {
             [] => 0,
             [a] => u64::from(a),
             [a, b] => u64::from(a) * 256 + u64::from(b),
+            [a, b, c] if strict => u64::from(a) * 65_536 + u64::from(b) * 256 + u64::from(c),
             _ => return None,
         };
         Some(Block { num: n / 16, more: n / 8 % 2 == 1, exponent: (n % 8) as u8 })
@@ -46,23 +49,23 @@ impl Block {
 }
 
 /// Unreadable counts as absent.
-pub fn counted(option: &Option<Vec<u8>>) -> Option<Block> {
-    option.as_deref().and_then(Block::read)
+pub fn counted(strict: bool, option: &Option<Vec<u8>>) -> Option<Block> {
+    Block::read(strict, option.as_deref()?)
 }
 
 // Negotiation
 
-pub fn negotiate(block: Option<Block>, bare: u64, p: u64, t: u64) -> Result<Option<Block>, u8> {
+pub fn negotiate(strict: bool, block: Option<Block>, bare: u64, p: u64, t: u64) -> Result<Option<Block>, u8> {
     if bare + OPTIONS > t {
         return Err(4);
     }
     let m = t - bare - OPTIONS;
     let made = match block {
         None if p < m => return Ok(None),
-        None => Block::make(0, true, m),
+        None => Block::make(strict, 0, true, m),
         Some(b) => match b.size().min(m) {
             0 => None,
-            g => Block::make(b.start() / g, b.start() + g < p, g),
+            g => Block::make(strict, b.start() / g, b.start() + g < p, g),
         },
     };
     made.map(Some).ok_or(5)
@@ -111,7 +114,7 @@ pub struct Look {
 }
 
 fn in_limits(c: &Config) -> bool {
-    (1..=65_535).contains(&c.t) && (1..=4_294_967_295).contains(&c.lifetime) && (16..=65_536).contains(&c.u) && (16..=65_536).contains(&c.v)
+    (1..=65_535).contains(&c.t) && (1..=4_294_967_295).contains(&c.lifetime) && (16..=16_777_216).contains(&c.u) && (16..=65_536).contains(&c.v)
 }
 
 impl Model {
@@ -147,7 +150,10 @@ impl Model {
         }
         let i = self.place(call)?;
         match &call.what {
-            What::Request { block1, block2, payload } => self.request(i, call.bare, counted(block1), counted(block2), payload),
+            What::Request { block1, block2, payload } => {
+                let strict = self.config.strict;
+                self.request(i, call.bare, counted(strict, block1), counted(strict, block2), payload)
+            }
             What::Response { own, head, payload } => self.respond(i, call.bare, *own, head, payload),
         }
     }
@@ -174,7 +180,7 @@ impl Model {
     // A request call
 
     fn request(&mut self, i: usize, bare: u64, block1: Option<Block>, block2: Option<Block>, payload: &[u8]) -> Result<Answer, u8> {
-        let reply = negotiate(block1, bare, payload.len() as u64, self.config.t)?;
+        let reply = negotiate(self.config.strict, block1, bare, payload.len() as u64, self.config.t)?;
         let (mut name, mut body, mut made) = ("Pass", payload.to_vec(), None);
         match (block1, reply) {
             (Some(b), reply) => {
@@ -252,7 +258,7 @@ impl Model {
             return Ok(Answer::named("Plain"));
         }
         let n = payload.len() as u64;
-        let Some(b) = negotiate(self.entries[i].recorded, bare, n, self.config.t)? else {
+        let Some(b) = negotiate(self.config.strict, self.entries[i].recorded, bare, n, self.config.t)? else {
             return Ok(Answer::named("Plain"));
         };
         let (from, to, value) = chunk(n, b)?;

@@ -5,7 +5,7 @@ use Prim.Native.Nat.{ℕ, _+_, _*_, min}
 abbrev pub scratchSize : ℕ
 scratchSize = 100000
 
--- The longest piece that the limits allow, and a memory of sixteen.
+-- The longest piece that a program lends, and a memory of sixteen.
 abbrev pub pieceSize : ℕ
 pieceSize = 65536
 

@@ -7,7 +7,7 @@ ghost use Rattle.buffers.specs.Sizes.{scratchSize, memorySize, outputSiz
 // Half of the longest line that is read.
 const SCRATCH: usize = 100000;
 
-// The longest piece that the limits allow, and sixteen of them.
+// The longest piece that a program lends, and sixteen of them. The limits allow a longer U: a call under one then gets refusal 1 for its memory.
 const PIECE: usize = 65536;
 
 const MEMORY: usize = 16 * PIECE;

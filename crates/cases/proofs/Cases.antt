@@ -1,6 +1,6 @@
 -- Document 01's cases 1 to 12, those of strict mode, those at the edges of its numbers and document 02's hold of the definitions, by computation. Assumes nothing.
 use Prim.Native.Nat.{ℕ, zero, suc}
-use mathlib.Core.Bool.{Bool}
+use mathlib.Core.Bool.{Bool, true, false}
 use mathlib.Core.Path.{refl}
 use mathlib.Core.List.{List, [], _∷_}
 use lib.ListN.{take, drop}
@@ -19,10 +19,14 @@ halves (suc n) (r ∷ l) front behind = (front .0, halves n l (front .1) behind)
 
 pub cases-hold : (strict : Bool) → AllSay (cases strict)
 unfolding steps
-cases-hold strict =
-    halves 15 (cases strict)
-    (refl, (refl, (refl, (refl, (refl, (refl, (refl, (refl, (refl, (refl, (refl, (refl, (refl, (refl, (refl, tt)))))))))))))))
+cases-hold true =
+    halves 16 (cases true)
     (refl, (refl, (refl, (refl, (refl, (refl, (refl, (refl, (refl, (refl, (refl, (refl, (refl, (refl, (refl, (refl, tt))))))))))))))))
+    (refl, (refl, (refl, (refl, (refl, (refl, (refl, (refl, (refl, (refl, (refl, (refl, (refl, (refl, (refl, tt)))))))))))))))
+cases-hold false =
+    halves 16 (cases false)
+    (refl, (refl, (refl, (refl, (refl, (refl, (refl, (refl, (refl, (refl, (refl, (refl, (refl, (refl, (refl, (refl, tt))))))))))))))))
+    (refl, (refl, (refl, (refl, (refl, (refl, (refl, (refl, (refl, (refl, (refl, (refl, (refl, (refl, (refl, tt)))))))))))))))
 
 pub strict-cases : AllSay strictCases
 unfolding steps

@@ -4,6 +4,7 @@ use mathlib.Core.Bool.{Bool, true, false, _&&_}
 use mathlib.Core.Path.{_≡_, refl, sym, _∙_, ap}
 use mathlib.Core.Logic.{inl, inr}
 use mathlib.Core.List.{List, [], _∷_, _++_}
+use mathlib.Core.Option.{some}
 use native.Mathlib.Omega.{arith}
 use lib.ListN.{length, getD, take, drop, replicate, getD-replicate, List·getD-eq-default, length-take}
 use lib.Seq.{getD-drop, getD-take}
@@ -11,7 +12,11 @@ use lib.Dec.{leb, ltb}
 use borrow.Author.Tests.{ltb-true, ltb-false}
 use Rattle.pieces.specs.Memory as memory
 use Rattle.pieces.proofs.Tests.{by-cases, on-test}
-use Rattle.negotiation.specs.Negotiation.{requestBlock}
+use Rattle.config.proofs.Mode.{bytes-least, nums-least}
+use Rattle.block_option.specs.Uint.{uint}
+use Rattle.block_option.specs.Option.{unpacked}
+use Rattle.block_option.proofs.Laws.{read-few}
+use Rattle.negotiation.specs.Negotiation.{counted, requestBlock}
 use Rattle.negotiation.specs.declared.MaybeBlock.the-variants.{Given}
 use Rattle.config.specs.declared.Config.{Config}
 use Rattle.block_state.specs.declared.Part.{Part}
@@ -41,14 +46,19 @@ fresh-free c w time fresh = (0, omega arith, rw (fresh-entry w fresh 0 (omega ar
 pub fresh-nothing : (c : Config) (w : World) (time : ℕ) (k : Name) → w .table ≡ freshTable → NothingInPlain c w time k
 fresh-nothing c w time k fresh plain i b h y = rw (fresh-entry w fresh i b)
 
+-- an option of at most two bytes is read in either mode
+reads : (c : Config) (option : List ℕ) → length option ≤ 2 → requestBlock c (some option) ≡ Given (unpacked (uint option))
+unfolding values
+reads c option short = ap counted (read-few c option (omega (arith, bytes-least (c .strict))))
+
 -- a block alone, and two blocks, of at most 16 bytes
 module _ (c : Config) (room : 48 ≤ c .limit) where
   pub one-block : (time : ℕ) (p : List ℕ) → length p ≤ 16 → length p ≤ c .upload → Blocks c 0 (sent time [] p) []
   unfolding values
   one-block time p short fits =
       record {
-        count = omega arith;
-        numbered = refl;
+        count = omega (arith, nums-least (c .strict));
+        numbered = reads c [] (omega arith);
         size = omega arith;
         full = short;
         alone = refl;
@@ -62,8 +72,8 @@ module _ (c : Config) (room : 48 ≤ c .limit) where
   unfolding values
   two-blocks time next p q full short fits soon =
       record {
-        count = omega arith;
-        numbered = (refl, refl);
+        count = omega (arith, nums-least (c .strict));
+        numbered = (reads c (0x08 ∷ []) (omega arith), reads c (0x10 ∷ []) (omega arith));
         size = omega arith;
         full = (full, short);
         alone = (refl, refl);
@@ -124,8 +134,8 @@ given-three strict =
         sixteen = refl;
         bytes = (((omega arith, tt), tt), (((omega arith, tt), tt), (((omega arith, tt), tt), tt)));
         blocks = record {
-          count = omega arith;
-          numbered = (refl, (refl, refl));
+          count = omega (arith, nums-least strict);
+          numbered = (reads (wide strict) (0x0E ∷ []) (omega arith), (reads (wide strict) (0x1E ∷ []) (omega arith), reads (wide strict) (0x26 ∷ []) (omega arith)));
           size = omega arith;
           full = (refl, (refl, omega arith));
           alone = (refl, (refl, refl));
@@ -199,7 +209,7 @@ shown-zero (Refused m) payload n e = refl
 
 first-reads : (c : Config) → requestBlock c (firstBlock .message .block1) ≡ Given (block 0 true 0)
 unfolding values
-first-reads c = refl
+first-reads c = reads c (0x08 ∷ []) (omega arith)
 
 pub excluded : Excluded
 excluded =

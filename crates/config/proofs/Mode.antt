@@ -30,7 +30,7 @@ unfolding nums optionBytes
 nums-most true = omega arith
 nums-most false = omega arith
 
-pub nums-least : (strict : Bool) → 1 ≤ nums strict
+pub nums-least : (strict : Bool) → 4096 ≤ nums strict
 unfolding nums optionBytes
 nums-least true = omega arith
 nums-least false = omega arith

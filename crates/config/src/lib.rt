@@ -35,22 +35,29 @@ pub fn default_config(strict: bool, upload: usize, response: usize) -> Config
     }
 }
 
-// The most bytes of a Block option that is read.
+// The numbers that are a mode's: the most bytes of a Block option that is read, and the largest num that is made.
+const PLAIN_OPTION_BYTES: usize = 2;
+
+const STRICT_OPTION_BYTES: usize = 3;
+
+const PLAIN_NUM_LIMIT: usize = 65535;
+
+const STRICT_NUM_LIMIT: usize = 1048575;
+
 pub fn option_bytes(config: Config) -> usize
     ensures { λ r. ⌜ (r ≡ optionBytes (config .strict)) × (r ≤ 3) ⌝ }
 {
     if config.strict {
-        return 3;
+        return STRICT_OPTION_BYTES;
     }
-    2
+    PLAIN_OPTION_BYTES
 }
 
-// The largest num that is made.
 pub fn num_limit(config: Config) -> usize
     ensures { λ r. ⌜ (r ≡ numLimit (config .strict)) × (r < 2 ^ 20) ⌝ }
 {
     if config.strict {
-        return 1048575;
+        return STRICT_NUM_LIMIT;
     }
-    65535
+    PLAIN_NUM_LIMIT
 }

@@ -64,12 +64,7 @@ pub extern "C" fn block_handler_read(strict: bool, option: &[u8]) -> Recorded
 }
 
 #[no_mangle]
-pub extern "C" fn block_handler_write(
-    strict: bool,
-    num: u32,
-    more: bool,
-    exponent: u8,
-) -> Written
+pub extern "C" fn block_handler_write(strict: bool, num: u32, more: bool, exponent: u8) -> Written
     ensures { λ r. ⌜ r ≡ inThree (written (inMode strict) (record { num = num; more = more; «size_exponent» = exponent })) ⌝ }
 {
     let block = BlockValue {

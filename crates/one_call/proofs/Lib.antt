@@ -5,3 +5,4 @@ pub mod Touch
 pub mod Agreed
 pub mod Refusals
 pub mod Strict
+pub mod Starts

@@ -3,3 +3,4 @@ pub mod Touch
 pub mod Agreed
 pub mod Strict
 pub mod Refusals
+pub mod Starts
