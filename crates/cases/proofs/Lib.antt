@@ -3,3 +3,4 @@ pub mod Cases
 pub mod Incident
 pub mod Shams
 pub mod Given
+pub mod Longest

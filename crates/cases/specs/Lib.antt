@@ -6,3 +6,4 @@ pub mod HeldCases
 pub mod Incident
 pub mod Shams
 pub mod Given
+pub mod Longest
