@@ -143,7 +143,8 @@ module _ (c : Config) where
   pub returned : (b : BlockValue) → take (inThree (written c b) .len) (inThree (written c b) .bytes) ≡ written c b
   returned b = in-three (written c b) (within 3 (packed c b))
 
-as-the-rfc : (strict : Bool) → AsTheRfc strict (optionBytes strict) (nums strict - 1)
+-- in either mode, for its own numbers
+pub as-the-rfc : (strict : Bool) → AsTheRfc strict (optionBytes strict) (nums strict - 1)
 as-the-rfc strict =
     record {
       read = λ c e option b h. rw (← e) (read-holds c option b (rw (← e) at h));

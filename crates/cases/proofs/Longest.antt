@@ -9,7 +9,7 @@ use native.Mathlib.Omega.{arith}
 use lib.ListN.{length, replicate, length-append, length-replicate}
 use lib.Pow.{pow-mono}
 use borrow.Author.Tests.{leb-true, le-leb, eq-eqb}
-use Rattle.pieces.proofs.Tests.{ands, by-cases}
+use Rattle.pieces.proofs.Tests.{ands}
 use Rattle.config.specs.declared.Config.{Config}
 use Rattle.config.specs.Mode.{optionBytes, nums}
 use Rattle.block_value.specs.Value.{sizeOf}
@@ -17,8 +17,7 @@ use Rattle.block_value.specs.declared.BlockValue.{BlockValue}
 use Rattle.block_value.proofs.Laws.{size-most}
 use Rattle.block_option.specs.Uint.{Bytes}
 use Rattle.block_option.specs.Option.{written}
-use Rattle.block_option.specs.Rfc7959.{AsTheRfc}
-use Rattle.block_option.proofs.Rfc7959.{both-modes}
+use Rattle.block_option.proofs.Rfc7959.{as-the-rfc}
 use Rattle.negotiation.specs.Negotiation.{counted, requestBlock}
 use Rattle.negotiation.specs.declared.MaybeBlock.the-variants.{Given}
 use Rattle.block_state.specs.Message.{Request}
@@ -38,14 +37,8 @@ abbrev Kept : Config → BlockValue → Type 0
 Kept c b = Bytes (written c b) × (requestBlock c (some (written c b)) ≡ Given b)
 
 kept : (c : Config) (b : BlockValue) → b .num < nums (c .strict) → b .«size_exponent» ≤ 7 → Kept c b
-unfolding nums optionBytes requestBlock
-kept c b few known =
-    by-cases (c .strict)
-    (λ e. in-mode (both-modes .strict) e (omega (arith, rw e at few)))
-    (λ e. in-mode (both-modes .plain) e (omega (arith, rw e at few)))
-  where
-    in-mode : {strict : Bool} {most last : ℕ} → AsTheRfc strict most last → c .strict ≡ strict → b .num ≤ last → Kept c b
-    in-mode rfc e h = let w = rfc .write c e b h known in (w .0 .bytes, ap counted (w .3))
+unfolding requestBlock
+kept c b few known = let w = as-the-rfc (c .strict) .write c refl b (omega arith) known in (w .0 .bytes, ap counted (w .3))
 
 -- ---- the client's blocks
 

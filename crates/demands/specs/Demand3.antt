@@ -173,7 +173,7 @@ pub record Push (c : Config) (w : World) (k : Name) (x : ℕ) (first : Sent) (re
   pub bytes : AllBytes (callOn k first ∷ later)
   pub blocks : Blocks c x first rest
 
--- The whole of it. "In either mode": nothing is said of c .strict but in `nothing`, and in how many blocks there may be.
+-- The whole of it. "In either mode": of the two modes' differences only three come in: `nothing`, how many blocks there may be, and what an option is read as.
 pub record Granted (c : Config) (w : World) (k : Name) (x : ℕ) (first : Sent) (rest : List Sent) (later : List Call) : Type 0 where
   -- "Take a key with a live entry or a free one to take ..
   pub entry : HasLive c w (first .time) k ⊎ HasFree c w (first .time)

@@ -1,3 +1,4 @@
+use mathlib.Core.Path.{refl}
 use Rattle.judge.specs.Limits.{configOk}
 use borrow.Author.Needs.{needs}
 use Rattle.judge.proofs.config_ok.Statement.{statement}
@@ -17,7 +18,7 @@ returns c =
       limit .u64-of-usize .ensures,
       upload .u64-of-usize2 .ensures,
       response .u64-of-usize3 .ensures,
-    )
+    ) refl
 
 pub config-ok-spec : {M : Type 1} → statement M
 config-ok-spec =
