@@ -137,9 +137,9 @@ pub longest-of-all : LongestOfAll
 unfolding configOk nums optionBytes sizeOf
 longest-of-all =
     record {
-      strict16 = longest (largest true) 0 1048576 refl (omega arith) (omega arith) (omega arith) (omega arith) (omega arith);
-      strict64 = longest (largest true) 2 262144 refl (omega arith) (omega arith) (omega arith) (omega arith) (omega arith);
+      strict16 = longest (largest true) 0 _ refl (omega arith) (omega arith) (omega arith) (omega arith) (omega arith);
+      strict64 = longest (largest true) 2 _ refl (omega arith) (omega arith) (omega arith) (omega arith) (omega arith);
       plain = λ x known.
           let small : sizeOf x ≤ 1024 = pow-mono {j = 10} (omega arith) in
-          longest (largest false) x 4096 refl known (omega arith) (omega arith) (omega arith) (omega arith);
+          longest (largest false) x _ refl known (omega arith) (omega arith) (omega arith) (omega arith);
     }

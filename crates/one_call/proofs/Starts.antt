@@ -1,7 +1,7 @@
 -- WHERE A BLOCK STARTS IS WITHIN 32 BITS. Assumes nothing.
 use Prim.Native.Nat.{ℕ, _*_, _≤_}
-use mathlib.Core.Bool.{Bool, true, false}
-use mathlib.Core.Path.{_≡_, refl, sym, _∙_}
+use mathlib.Core.Bool.{Bool}
+use mathlib.Core.Path.{_≡_}
 use native.Mathlib.Nat.{mul-le-mul}
 use native.Mathlib.Omega.{arith}
 use lib.Dec.{ltb, eqb}
@@ -10,15 +10,14 @@ use Rattle.pieces.proofs.Tests.{by-cases}
 use Rattle.config.specs.declared.Config.{Config}
 use Rattle.config.specs.Mode.{numLimit}
 use Rattle.config.proofs.Mode.{limit-most, nums-most}
-use Rattle.block_value.specs.Value.{exponentOf, made, blockSize, blockStart}
+use Rattle.block_value.specs.Value.{exponentOf, made, blockStart}
 use Rattle.block_value.specs.declared.BlockValue.{BlockValue}
 use Rattle.block_value.specs.declared.Made.the-variants as make
 use Rattle.block_value.proofs.Laws.{size-most}
 use Rattle.block_option.proofs.Laws.{read-num}
 use Rattle.negotiation.specs.declared.MaybeBlock.{MaybeBlock}
 use Rattle.negotiation.specs.declared.MaybeBlock.the-variants.{Given}
-use Rattle.block_state.specs.declared.Recorded.{Recorded}
-use Rattle.block_state.specs.State.{recordedBlock, recordedOk}
+use Rattle.block_state.specs.State.{recordedBlock}
 use Rattle.block_state.proofs.Fits.{Held, recorded-held}
 use Rattle.one_call.specs.Starts.{StartsLow, Starts}
 

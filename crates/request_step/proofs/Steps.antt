@@ -5,7 +5,6 @@ use mathlib.Core.List.{List}
 use lib.ListN.{length}
 use Rattle.config.specs.declared.Config.{Config}
 use Rattle.block_value.specs.declared.BlockValue.{BlockValue}
-use Rattle.negotiation.specs.Negotiation.{requestBlock}
 use Rattle.negotiation.specs.declared.MaybeBlock.{MaybeBlock}
 use Rattle.negotiation.specs.declared.MaybeBlock.the-variants.{Absent, Given}
 use Rattle.negotiation.specs.declared.Negotiated.{Negotiated}
