@@ -28,12 +28,13 @@ extern "C" {
 /* The table's entries: at most so many keys are live at a time. Each owns one piece of either memory. */
 #define BLOCK_HANDLER_ENTRIES 16
 
-/* How the handler is set up. Another `upload` or `response` needs a fresh table: the pieces of the memories lie elsewhere then. */
+/* How the handler is set up. Another `upload` or `response` needs a fresh table: the pieces of the memories lie elsewhere then. Another mode needs none, and each
+ * call goes by its own: a Block2 option that a strict call recorded, with a num above 65535, is refusal 5 in a plain response call. */
 struct block_handler_config {
     bool strict;       /* false: plain mode, as the Rust answers. true: only the next block is taken, and all but the last are full; block 0 starts afresh. See below. */
     size_t limit;      /* T, the most bytes of a message: 1 to 65535. */
     uint64_t lifetime; /* Milliseconds that a key lives after its last call: 1 to 4294967295. */
-    size_t upload;     /* U, the length of one piece of the upload memory: 16 to 65536. The memory is 16 * U long. */
+    size_t upload;     /* U, the length of one piece of the upload memory: 16 to 16777216. The memory is 16 * U long. */
     size_t response;   /* V, the length of one piece of the response memory: 16 to 65536. The memory is 16 * V long. */
 };
 
@@ -48,8 +49,9 @@ struct block_handler_config {
  * which a client gives up or starts again; the last of two or more gets it too, though its list was handed on. In plain mode a middle block is written over itself, and the last one is the corrupt
  * list above. In either mode a late copy of a block of one list can be taken into the next list of the key.
  *
- * A Block1 option of three bytes counts as absent, in strict mode too: its block is taken for a whole message, and PASS gives it to the application as the list. Take zero bytes off
- * its front before the call; if three bytes remain, send 4.13 and make no call. */
+ * Long lists: strict mode reads Block options of up to three bytes, as RFC 7959 has them, so a list has up to 1048576 blocks, if U has room. Plain mode reads two bytes, and a Block1 option of
+ * three counts as absent: block 4096 and every later one is taken for a whole message, and PASS gives it to the application as the list. In plain mode, take zero bytes off the option's
+ * front before the call; if three bytes remain, send 4.13 and make no call. An option of more than three bytes counts as absent in either mode. RFC 7959 has none: send 4.02 and make no call. */
 
 /* A key's bytes and their number. Bytes past the length are never compared. */
 struct block_handler_key {
@@ -129,7 +131,7 @@ enum block_handler_refusal {
     BLOCK_HANDLER_CLOCK = 2,         /* The time is before the table's clock: that of an earlier call which was not refused by 1, 2 or 3. */
     BLOCK_HANDLER_FULL = 3,          /* The key is not live, and sixteen others are. */
     BLOCK_HANDLER_NO_ROOM = 4,       /* The message leaves no room for a block: bare + 12 > limit. */
-    BLOCK_HANDLER_NO_BLOCK = 5,      /* No block value can be made. */
+    BLOCK_HANDLER_NO_BLOCK = 5,      /* No block value can be made, as for a size of 0, or for a num above 65535 (in strict mode above 1048575). */
     BLOCK_HANDLER_JUMP = 6,          /* The block ends more than 16,384 bytes past what is assembled (plain mode). */
     BLOCK_HANDLER_PIECE = 7,         /* The piece is too small for the body or the response. */
     BLOCK_HANDLER_PAST_THE_END = 8,  /* The chunk asked for is past the end. A request's Block2 is recorded, and a body completed in it is gone. */
@@ -161,7 +163,7 @@ struct block_handler_found {
 /* An option's bytes: the first len of them. */
 struct block_handler_option {
     size_t len;
-    uint8_t bytes[2];
+    uint8_t bytes[3];
 };
 
 BLOCK_HANDLER_ASSERT(sizeof(bool) == 1 && sizeof(size_t) == 8);
@@ -205,12 +207,13 @@ struct block_handler_table block_handler_fresh(void);
  * Nothing is refused here: of a table that is off the limits it is the figure that stands there. As with any two calls, not while another call has the table. */
 uint64_t block_handler_bytes_held(const struct block_handler_table *table);
 
-/* The block value of an option's bytes. More than two bytes cannot be read, which counts as none. */
-struct block_handler_block block_handler_read(const uint8_t *option, size_t option_len);
+/* The block value of an option's bytes, read as a call of this mode reads them: in strict mode up to three bytes, in plain mode up to two, with or without zeros
+ * at the front. A longer option cannot be read, which counts as none. */
+struct block_handler_block block_handler_read(bool strict, const uint8_t *option, size_t option_len);
 
-/* The option's bytes for a block value: the shortest form, at most two bytes, num taken modulo 4096 and the exponent modulo 8. A reply's num
- * can pass 4095. */
-struct block_handler_option block_handler_write(uint32_t num, bool more, uint8_t exponent);
+/* The option's bytes for a block value, in the shortest form. In strict mode they are at most three, and num is taken modulo 1048576; in plain mode they are at most two, and
+ * num is taken modulo 4096. The exponent is taken modulo 8. A reply of strict mode is written whole; in plain mode a reply's num can pass 4095. */
+struct block_handler_option block_handler_write(bool strict, uint32_t num, bool more, uint8_t exponent);
 
 /* A request, before the application sees it, at this time in milliseconds, which never goes back, under this key (1 to 64 bytes): requests
  * that share a key share an upload and a cached response, so put the sender, the method and the path in it. `bare` is the length of

@@ -3,7 +3,7 @@
 
 use std::hint::black_box;
 
-use block_handler::{BlockHandler, BlockHandlerConfig, RequestAnswer, Response, ResponseAnswer};
+use block_handler::{BlockHandler, BlockHandlerConfig, Mode, RequestAnswer, Response, ResponseAnswer};
 
 use crate::inputs::{block, Call, BARE, KEYS};
 use crate::sides::{per_call, Times};
@@ -56,7 +56,7 @@ fn walk(noted: &[Noted]) -> u64 {
 
 /// Each key has a part of an upload assembled and a response cached, no two of the same lengths.
 fn full() -> (BlockHandler, Vec<Noted>) {
-    let mut handler = BlockHandler::new(BlockHandlerConfig { strict: false, ..BlockHandlerConfig::default() });
+    let mut handler = BlockHandler::new(BlockHandlerConfig { mode: Mode::Plain, ..BlockHandlerConfig::default() });
     let mut noted = Vec::new();
     for i in 0..KEYS {
         let asking = Call::new(i, None, Some(block(0, false)), Vec::new());

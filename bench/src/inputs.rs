@@ -2,7 +2,7 @@
 
 use std::net::{Ipv4Addr, SocketAddr};
 
-use block_handler::{BlockValue, Request};
+use block_handler::{BlockValue, Mode, Request};
 use coap_lite::{CoapOption, CoapRequest, CoapResponse, MessageClass, Packet, RequestType, ResponseType};
 
 pub const KEYS: usize = 16;
@@ -19,9 +19,9 @@ pub struct Call {
     payload: Vec<u8>,
 }
 
-/// The option for a block of 1 KiB.
+/// The option for a block of 1 KiB, as both sides read it.
 pub fn block(num: usize, more: bool) -> Vec<u8> {
-    BlockValue::new(num, more, 1024).expect("a block of 1 KiB").write().to_vec()
+    BlockValue::new(Mode::Plain, num, more, 1024).expect("a block of 1 KiB").write(Mode::Plain).to_vec()
 }
 
 impl Call {

@@ -4,7 +4,7 @@ use std::hint::black_box;
 use std::net::SocketAddr;
 use std::time::{Duration, Instant};
 
-use block_handler::{BlockHandler, BlockHandlerConfig, Request, RequestAnswer, Response, ResponseAnswer};
+use block_handler::{BlockHandler, BlockHandlerConfig, Mode, Request, RequestAnswer, Response, ResponseAnswer};
 use coap_lite::{CoapRequest, MessageClass, ResponseType};
 
 use crate::inputs::{Call, BARE};
@@ -27,7 +27,7 @@ pub struct Times {
 impl Sides {
     /// Plain mode, coap-lite's defaults, pieces of 64 KiB.
     pub fn new() -> Self {
-        let config = BlockHandlerConfig { strict: false, ..BlockHandlerConfig::default() };
+        let config = BlockHandlerConfig { mode: Mode::Plain, ..BlockHandlerConfig::default() };
         let theirs = coap_lite::BlockHandlerConfig {
             max_total_message_size: config.max_total_message_size,
             cache_expiry_duration: config.cache_expiry_duration,

@@ -1,7 +1,7 @@
 //! The boundary to the static libraries: their structs and functions as the headers in include/ declare them, and one safe function
 //! for each. All `unsafe` of the crate is here.
 
-use crate::{BlockHandlerConfig, BlockValue, Draft, Refusal, Request, Response};
+use crate::{BlockHandlerConfig, BlockValue, Draft, Mode, Refusal, Request, Response};
 
 #[repr(C)]
 #[derive(Debug, Clone, Copy, PartialEq, Eq)]
@@ -109,7 +109,7 @@ pub struct Reply {
 #[repr(C)]
 struct OptionBytes {
     len: usize,
-    bytes: [u8; 2],
+    bytes: [u8; 3],
 }
 
 /// A message that was read, in numbers; or a refusal, and then all else is 0.
@@ -146,8 +146,8 @@ pub struct Written {
 extern "C" {
     fn block_handler_fresh() -> Table;
     fn block_handler_bytes_held(table: *const Table) -> u64;
-    fn block_handler_read(option: *const u8, option_len: usize) -> Block;
-    fn block_handler_write(num: u32, more: bool, exponent: u8) -> OptionBytes;
+    fn block_handler_read(strict: bool, option: *const u8, option_len: usize) -> Block;
+    fn block_handler_write(strict: bool, num: u32, more: bool, exponent: u8) -> OptionBytes;
     fn block_handler_request(
         table: *mut Table,
         config: Config,
@@ -221,16 +221,16 @@ pub fn bytes_held(table: &Table) -> u64 {
     unsafe { block_handler_bytes_held(table) }
 }
 
-/// Reads an option; none if it has more than two bytes.
-pub fn read(option: &[u8]) -> Option<BlockValue> {
+/// Reads an option; none if it has more bytes than the mode's options have.
+pub fn read(mode: Mode, option: &[u8]) -> Option<BlockValue> {
     // SAFETY: pointer and length are those of one slice, which is only read; the library keeps no pointer.
-    unsafe { block_handler_read(option.as_ptr(), option.len()) }.value()
+    unsafe { block_handler_read(mode == Mode::Strict, option.as_ptr(), option.len()) }.value()
 }
 
 /// The option of a value in the fewest bytes: how many, and the bytes.
-pub fn write(block: BlockValue) -> (usize, [u8; 2]) {
+pub fn write(mode: Mode, block: BlockValue) -> (usize, [u8; 3]) {
     // SAFETY: numbers go in and a struct of numbers comes out.
-    let option = unsafe { block_handler_write(block.num, block.more, block.size_exponent) };
+    let option = unsafe { block_handler_write(mode == Mode::Strict, block.num, block.more, block.size_exponent) };
     (option.len, option.bytes)
 }
 
@@ -345,11 +345,21 @@ impl From<BlockHandlerConfig> for Config {
     /// A duration that has no count of milliseconds in 64 bits is off the limits, and so is what stands for it.
     fn from(config: BlockHandlerConfig) -> Self {
         Self {
-            strict: config.strict,
+            strict: config.mode == Mode::Strict,
             limit: config.max_total_message_size,
             lifetime: config.cache_expiry_duration.as_millis().try_into().unwrap_or(u64::MAX),
             upload: config.max_upload,
             response: config.max_response,
+        }
+    }
+}
+
+impl Config {
+    pub fn mode(&self) -> Mode {
+        if self.strict {
+            Mode::Strict
+        } else {
+            Mode::Plain
         }
     }
 }

@@ -2,13 +2,19 @@ use std::time::Duration;
 
 use crate::ffi::{self, Reply, Table};
 use crate::refusal::{CONTINUE, REQUEST_ENTITY_TOO_LARGE};
-use crate::{BlockValue, Refusal};
+use crate::{BlockValue, Mode, Refusal};
 
 /// How many keys can be live at once.
 pub const ENTRIES: usize = 16;
 
-/// The largest piece of memory that a key can have.
-const MAX_PIECE: usize = 65_536;
+/// The largest piece of the upload memory that a key can have.
+const MAX_UPLOAD: usize = 16_777_216;
+
+/// The largest piece of the response memory that a key can have.
+const MAX_RESPONSE: usize = 65_536;
+
+/// The pieces of the default configuration. Sixteen of the largest uploads would be 256 MiB, which is too much for a default.
+const DEFAULT_PIECE: usize = 65_536;
 
 /// The configuration for [`BlockHandler`].
 #[derive(Debug, Clone, Copy, PartialEq, Eq)]
@@ -19,23 +25,24 @@ pub struct BlockHandlerConfig {
     pub cache_expiry_duration: Duration,
     /// In strict mode an upload is its blocks in order from block 0, and nothing else. Plain mode answers as coap-lite does, and takes
     /// blocks in any order: a push that is sent again, and is shorter, keeps the old one's tail; and the last block of a push, sent twice,
-    /// hands on a corrupt body the second time, zeros in place of all blocks but that one. A lane should be strict.
-    pub strict: bool,
-    /// The longest upload: the length of each key's piece of the upload memory, 16 to 65,536.
+    /// hands on a corrupt body the second time, zeros in place of all blocks but that one. Its uploads end at block 4095, since it reads
+    /// no longer option. A lane should be strict.
+    pub mode: Mode,
+    /// The longest upload: the length of each key's piece of the upload memory, 16 to 16,777,216.
     pub max_upload: usize,
     /// The longest cached response, head and payload: the length of each key's piece of the response memory, 16 to 65,536.
     pub max_response: usize,
 }
 
-/// coap-lite's numbers, the largest pieces, and strict mode.
+/// coap-lite's numbers, pieces of 64 KiB, and strict mode.
 impl Default for BlockHandlerConfig {
     fn default() -> Self {
         Self {
             max_total_message_size: 1152,
             cache_expiry_duration: Duration::from_secs(120),
-            strict: true,
-            max_upload: MAX_PIECE,
-            max_response: MAX_PIECE,
+            mode: Mode::Strict,
+            max_upload: DEFAULT_PIECE,
+            max_response: DEFAULT_PIECE,
         }
     }
 }
@@ -49,9 +56,9 @@ pub struct Request<'a> {
     pub key: &'a [u8],
     /// The length of the message encoded without its payload, at most 65,535.
     pub bare: usize,
-    /// The bytes of its Block1 option. More than two count as no option.
+    /// The bytes of its Block1 option. More than two, in strict mode more than three, count as no option.
     pub block1: Option<&'a [u8]>,
-    /// The bytes of its Block2 option. More than two count as no option.
+    /// The bytes of its Block2 option. More than two, in strict mode more than three, count as no option.
     pub block2: Option<&'a [u8]>,
     /// At most 65,535 bytes.
     pub payload: &'a [u8],
@@ -167,8 +174,8 @@ pub struct BlockHandler<Memory = Vec<u8>> {
 impl BlockHandler {
     /// A handler with memories of its own, sixteen pieces each. Under a configuration off the limits every call is refused.
     pub fn new(config: BlockHandlerConfig) -> Self {
-        let memory = |piece: usize| vec![0; if piece <= MAX_PIECE { ENTRIES * piece } else { 0 }];
-        Self::with_memories(config, memory(config.max_upload), memory(config.max_response))
+        let memory = |piece: usize, most: usize| vec![0; if piece <= most { ENTRIES * piece } else { 0 }];
+        Self::with_memories(config, memory(config.max_upload, MAX_UPLOAD), memory(config.max_response, MAX_RESPONSE))
     }
 }
 
@@ -176,6 +183,22 @@ impl<Memory: AsRef<[u8]> + AsMut<[u8]>> BlockHandler<Memory> {
     /// A handler over these memories. If they are not sixteen pieces long, every call is refused.
     pub fn with_memories(config: BlockHandlerConfig, upload: Memory, response: Memory) -> Self {
         Self { config: ffi::Config::from(config), table: ffi::fresh(), upload, response }
+    }
+
+    /// Its mode, in which a caller reads and writes the options of its messages.
+    ///
+    /// ```
+    /// use block_handler::{BlockHandler, BlockHandlerConfig, Request, RequestAnswer};
+    ///
+    /// let mut handler = BlockHandler::new(BlockHandlerConfig::default());
+    /// let lane = Request { key: b"lane 7 PUT /prices", bare: 20, ..Request::default() };
+    /// let block = Request { block1: Some(&[0x08]), payload: b"milk 1.19, bread", ..lane }; // block 0 of 16 bytes
+    /// let RequestAnswer::Continue { block1 } = handler.intercept_request(&block)? else { panic!("more are to come") };
+    /// assert_eq!(block1.write(handler.mode())[..], []); // the Block1 option of the 2.31: num 0, no more, size 16
+    /// # Ok::<(), block_handler::Refusal>(())
+    /// ```
+    pub fn mode(&self) -> Mode {
+        self.config.mode()
     }
 
     /// The bytes held: over the keys that have an entry, what is assembled of an upload, and head and payload of a cached response. At

@@ -23,7 +23,7 @@
 //!
 //! let last = (list.len() - 1) / 64;
 //! for (num, block) in list.chunks(64).enumerate() {
-//!     let block1 = BlockValue::new(num, num < last, 64)?.write();
+//!     let block1 = BlockValue::new(handler.mode(), num, num < last, 64)?.write(handler.mode());
 //!     let request = Request {
 //!         time: 1000 + num as u64,
 //!         key: b"lane 7 PUT /prices",
@@ -83,7 +83,7 @@
 //! let mut fetched = chunk.to_vec();
 //! let mut more = block2.more;
 //! while more {
-//!     let asked = BlockValue::new(fetched.len() / block2.size(), false, block2.size())?.write();
+//!     let asked = BlockValue::new(handler.mode(), fetched.len() / block2.size(), false, block2.size())?.write(handler.mode());
 //!     let request = Request { time: 1002, block2: Some(&asked), ..request };
 //!     let RequestAnswer::Served { block2, head, chunk, .. } = handler.intercept_request(&request)? else { panic!("it is cached") };
 //!     assert_eq!(head, b"2.05");
@@ -105,12 +105,16 @@
 //! answer such a copy with the reply that it stored, and make no call. The handler sees no message IDs, so a copy that gets through is a
 //! new call. In strict mode a middle block then gets [`Refusal::NotNext`] (4.08), at which a client gives up or starts again; the last of
 //! two or more gets it too, though its list was handed on; a list of one block is handed on again, the same. In plain mode a middle block
-//! is written over itself, and the last one hands on the corrupt body that [`BlockHandlerConfig::strict`] tells of. In either mode a late
+//! is written over itself, and the last one hands on the corrupt body that [`BlockHandlerConfig::mode`] tells of. In either mode a late
 //! copy of a block of one list can be taken into the next list of the key.
 //!
-//! A Block1 option of three bytes counts as absent, in strict mode too: its block is taken for a whole message, and
-//! [`RequestAnswer::Pass`] gives it to the application as the list. Take zero bytes off its front before the call; if three bytes remain,
-//! send 4.13 and make no call.
+//! # Long lists
+//!
+//! In strict mode a list has up to 1,048,576 blocks, as RFC 7959 says, if `max_upload` has room for them. Plain mode reads options of two
+//! bytes, and a Block1 option of three counts as absent: block 4096 and every later one is taken for a whole message, and
+//! [`RequestAnswer::Pass`] gives it to the application as the list. In plain mode, take zero bytes off the option's front before the call;
+//! if three bytes remain, send 4.13 and make no call. An option of more than three bytes counts as absent in either mode. RFC 7959 has
+//! none: send 4.02 and make no call.
 //!
 //! # Building
 //!
@@ -126,6 +130,7 @@ mod block_value;
 mod ffi;
 mod handler;
 mod message;
+mod mode;
 mod refusal;
 #[cfg(test)]
 mod tests;
@@ -133,4 +138,5 @@ mod tests;
 pub use block_value::{BlockOption, BlockValue, InvalidBlockValue};
 pub use handler::{BlockHandler, BlockHandlerConfig, Request, RequestAnswer, Response, ResponseAnswer, ENTRIES};
 pub use message::{length_allowed, Draft, Malformed, Message, MessageType, NotWritten, Options};
+pub use mode::Mode;
 pub use refusal::Refusal;

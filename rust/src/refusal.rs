@@ -15,7 +15,7 @@ pub enum Refusal {
     TableFull = 3,
     /// The message leaves no room for a payload at any block size.
     TooLargeToEncode = 4,
-    /// No block value can be made.
+    /// No block value can be made, as for a size of 0, or for a num above 65,535 (in strict mode above 1,048,575).
     NoBlockValue = 5,
     /// Plain mode: the block would extend the assembly by more than 16,384 bytes.
     Jump = 6,

@@ -1,4 +1,5 @@
-/* The static library as a C program uses it: a list pushed in blocks, a page fetched in blocks, every refusal, wrong lengths, the bytes held. */
+/* The static library as a C program uses it: a list pushed in blocks, a page fetched in blocks, every refusal, wrong lengths, the bytes held, the
+ * options of both modes. */
 #include "block_handler.h"
 
 #include <stdio.h>
@@ -142,8 +143,8 @@ static void push_list(bool strict)
     memset(list[1], 'x', LIST);
     for (uint32_t num = 0; num * SIZE < LIST; num++) {
         bool more = (num + 1) * SIZE < LIST;
-        struct block_handler_option block1 = block_handler_write(num, more, 2);
-        struct block_handler_option far = block_handler_write(4000, true, 2);
+        struct block_handler_option block1 = block_handler_write(strict, num, more, 2);
+        struct block_handler_option far = block_handler_write(strict, 4000, true, 2);
         for (int lane = 0; lane < 2; lane++) {
             const uint8_t *payload = list[lane] + num * SIZE;
             size_t len = more ? SIZE : LIST - num * SIZE;
@@ -169,16 +170,16 @@ static void push_list(bool strict)
 static void push_again(bool strict)
 {
     uint8_t old[64], new[32];
-    struct block_handler_option first = block_handler_write(0, true, 0), block1;
+    struct block_handler_option first = block_handler_write(strict, 0, true, 0), block1;
     start(strict);
     memset(old, 'o', sizeof old);
     memset(new, 'n', sizeof new);
     for (uint32_t num = 0; num < 4; num++) {
-        block1 = block_handler_write(num, true, 0);
+        block1 = block_handler_write(strict, num, true, 0);
         CHECK(answered(ask((struct request){0, "lane", 20, &block1, NULL, old, 16}), BLOCK_HANDLER_CONTINUE, 95));
     }
     CHECK(answered(ask((struct request){0, "lane", 20, &first, NULL, new, 16}), BLOCK_HANDLER_CONTINUE, 95));
-    block1 = block_handler_write(1, false, 0);
+    block1 = block_handler_write(strict, 1, false, 0);
     struct block_handler_reply reply = ask((struct request){0, "lane", 20, &block1, NULL, new + 16, 16});
     struct block_handler_bytes body = block_handler_body_bytes(reply, new, 16, h.upload, sizeof h.upload);
     CHECK(body.len == (strict ? 32u : 64u) && memcmp(body.at, new, 32) == 0);
@@ -205,7 +206,7 @@ static void fetch_page(void)
     memcpy(got, sent.at, sent.len);
     size_t len = sent.len;
     for (uint32_t num = 1; len < PAGE; num++) {
-        struct block_handler_option block2 = block_handler_write(num, false, 3);
+        struct block_handler_option block2 = block_handler_write(h.config.strict, num, false, 3);
         reply = ask((struct request){6 + num, "screen", 20, NULL, &block2, NULL, 0});
         CHECK(answered(reply, BLOCK_HANDLER_SERVED, 0) && no_block(reply.block1));
         CHECK(block_is(reply.block2, num, (num + 1) * 128 < PAGE, 3));
@@ -221,7 +222,7 @@ static void fetch_page(void)
     CHECK(memcmp(got, page, PAGE) == 0);
 
     /* The cache is gone with the last chunk. */
-    struct block_handler_option block2 = block_handler_write(1, false, 3);
+    struct block_handler_option block2 = block_handler_write(h.config.strict, 1, false, 3);
     CHECK(answered(ask((struct request){20, "screen", 20, NULL, &block2, NULL, 0}), BLOCK_HANDLER_PASS, 0));
 
     /* The value recorded last asks for bytes 128 to 255; of 200 bytes they are the last. */
@@ -261,8 +262,8 @@ static void refusals(bool strict)
 {
     static struct handler before;
     static uint8_t bytes[2000];
-    struct block_handler_option first = block_handler_write(0, true, 2), next = block_handler_write(1, true, 6);
-    struct block_handler_option far = block_handler_write(4095, true, 6), reserved = block_handler_write(0, true, 7);
+    struct block_handler_option first = block_handler_write(strict, 0, true, 2), next = block_handler_write(strict, 1, true, 6);
+    struct block_handler_option far = block_handler_write(strict, 4095, true, 6), reserved = block_handler_write(strict, 0, true, 7);
     start(strict);
     CHECK(answered(ask((struct request){1, "lane", 20, &first, NULL, bytes, 64}), BLOCK_HANDLER_CONTINUE, 95));
     before = h;
@@ -358,7 +359,7 @@ static void off_limits(void)
 static struct block_handler_reply push(uint64_t time, const char *lane, uint32_t num, bool more, const struct block_handler_option *block2)
 {
     static const uint8_t bytes[SIZE];
-    struct block_handler_option block1 = block_handler_write(num, more, 2);
+    struct block_handler_option block1 = block_handler_write(h.config.strict, num, more, 2);
     return ask((struct request){time, lane, 20, &block1, block2, bytes, SIZE});
 }
 
@@ -371,8 +372,8 @@ static bool holds(uint64_t bytes)
 static void bytes_held(bool strict)
 {
     static uint8_t page[V];
-    struct block_handler_option chunk0 = block_handler_write(0, false, 3), chunk1 = block_handler_write(1, false, 3);
-    struct block_handler_option far = block_handler_write(9, false, 3);
+    struct block_handler_option chunk0 = block_handler_write(strict, 0, false, 3), chunk1 = block_handler_write(strict, 1, false, 3);
+    struct block_handler_option far = block_handler_write(strict, 9, false, 3);
     start(strict);
     CHECK(holds(0));
     CHECK(answered(push(1, "lane 1", 0, true, NULL), BLOCK_HANDLER_CONTINUE, 95) && holds(64));
@@ -410,7 +411,7 @@ static void bytes_held(bool strict)
 static void bytes_expired(bool strict)
 {
     static uint8_t page[PAGE];
-    struct block_handler_option far = block_handler_write(4000, true, 2);
+    struct block_handler_option far = block_handler_write(strict, 4000, true, 2);
     start(strict);
     const uint64_t end = 5 + h.config.lifetime;
     push(5, "lane 1", 0, true, NULL);
@@ -493,27 +494,78 @@ static void made_up_reply(void)
     CHECK(block_handler_served_head(reply, 5).place == 0 && block_handler_served_chunk(reply, 5).place == 0);
 }
 
-static void block_values(void)
+/* What both modes read and write alike: two bytes. */
+static void block_values(bool strict)
 {
-    const uint8_t three[3] = {0, 0, 8};
-    CHECK(no_block(block_handler_read(three, 3)));
-    CHECK(block_is(block_handler_read(three, 0), 0, false, 0));
-    CHECK(block_is(block_handler_read(three + 2, 1), 0, true, 0));
-    CHECK(block_handler_write(4096, false, 0).len == 0);
+    static const uint8_t bytes[5] = {0, 0, 0, 0, 8};
+    CHECK(block_is(block_handler_read(strict, bytes, 0), 0, false, 0));
+    CHECK(block_is(block_handler_read(strict, bytes + 4, 1), 0, true, 0));
+    CHECK(block_is(block_handler_read(strict, bytes + 3, 2), 0, true, 0));
+    CHECK(no_block(block_handler_read(strict, bytes + 1, 4)) && no_block(block_handler_read(strict, bytes, 5)));
     for (unsigned n = 0; n < 65536; n++) {
-        struct block_handler_option option = block_handler_write(n / 16, n / 8 % 2, (uint8_t)(n % 8));
+        struct block_handler_option option = block_handler_write(strict, n / 16, n / 8 % 2, (uint8_t)(n % 8));
         CHECK(option.len == (n == 0 ? 0 : n < 256 ? 1 : 2));
-        CHECK(block_is(block_handler_read(option.bytes, option.len), n / 16, n / 8 % 2, (uint8_t)(n % 8)));
+        CHECK(block_is(block_handler_read(strict, option.bytes, option.len), n / 16, n / 8 % 2, (uint8_t)(n % 8)));
     }
+}
+
+static bool option_is(struct block_handler_option option, size_t len, const uint8_t *bytes)
+{
+    return option.len == len && memcmp(option.bytes, bytes, len) == 0;
+}
+
+/* Three bytes: strict mode reads and writes them, plain mode does neither. */
+static void long_values(void)
+{
+    static const uint8_t zeros[3] = {0, 0, 8}, first[3] = {1, 0, 0}, last[3] = {255, 255, 0xfa}, four[4] = {1, 0, 0, 0};
+    CHECK(block_is(block_handler_read(true, zeros, 3), 0, true, 0) && no_block(block_handler_read(false, zeros, 3)));
+    CHECK(block_is(block_handler_read(true, first, 3), 4096, false, 0) && no_block(block_handler_read(false, first, 3)));
+    CHECK(block_is(block_handler_read(true, last, 3), 1048575, true, 2) && no_block(block_handler_read(false, last, 3)));
+    CHECK(no_block(block_handler_read(true, four, 4)) && no_block(block_handler_read(false, four, 4)));
+
+    CHECK(option_is(block_handler_write(true, 4096, false, 0), 3, first) && block_handler_write(false, 4096, false, 0).len == 0);
+    CHECK(option_is(block_handler_write(true, 1048575, true, 2), 3, last));
+    CHECK(option_is(block_handler_write(false, 1048575, true, 2), 2, last + 1));
+    CHECK(block_handler_write(true, 1048576, false, 0).len == 0 && block_handler_write(false, 1048576, false, 0).len == 0);
+    for (uint32_t num = 4096; num < 1048576; num += 97) {
+        struct block_handler_option option = block_handler_write(true, num, num % 2, (uint8_t)(num % 8));
+        CHECK(option.len == 3 && block_is(block_handler_read(true, option.bytes, option.len), num, num % 2, (uint8_t)(num % 8)));
+    }
+}
+
+/* Block 4096 of a list: strict mode refuses it where it is not the next one, plain mode takes it for a whole message. */
+static void long_option(bool strict)
+{
+    static const uint8_t bytes[16];
+    struct block_handler_option block1 = block_handler_write(true, 4096, false, 0);
+    start(strict);
+    struct block_handler_reply reply = ask((struct request){1, "lane", 20, &block1, NULL, bytes, sizeof bytes});
+    CHECK(strict ? refused(reply, 9, 136) : answered(reply, BLOCK_HANDLER_PASS, 0));
+}
+
+/* The mode is that of the call: a Block2 of num 70000, recorded by a strict one, is too large for a plain one. */
+static void other_mode(void)
+{
+    static const uint8_t page[40];
+    struct block_handler_option block2 = block_handler_write(true, 70000, false, 0);
+    start(true);
+    CHECK(answered(ask((struct request){1, "screen", 20, NULL, &block2, NULL, 0}), BLOCK_HANDLER_PASS, 0));
+    CHECK(refused(answer(1, "screen", false, "head", page, sizeof page), 8, 128));
+    h.config.strict = false;
+    CHECK(refused(answer(1, "screen", false, "head", page, sizeof page), 5, 160));
+    CHECK(block_is(h.table.entries[0].state.recorded, 70000, false, 0));
 }
 
 int main(void)
 {
     struct block_handler_config config = block_handler_default_config(true, U, V);
     CHECK(config.strict && config.limit == 1152 && config.lifetime == 120000 && config.upload == U && config.response == V);
-    block_values();
+    long_values();
+    other_mode();
     made_up_reply();
     for (int strict = 0; strict < 2; strict++) {
+        block_values(strict);
+        long_option(strict);
         push_list(strict);
         push_again(strict);
         refusals(strict);

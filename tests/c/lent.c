@@ -201,9 +201,9 @@ static const struct block_handler_state *state_of(const struct call *q)
 
 static struct block_handler_option option(uint32_t num, bool more, uint8_t exponent)
 {
-    struct block_handler_option written = block_handler_write(num, more, exponent);
+    struct block_handler_option written = block_handler_write(config.strict, num, more, exponent);
     if (chance(50) == 0)
-        written.len = chance(3);
+        written.len = chance(4);
     return written;
 }
 
@@ -216,7 +216,7 @@ static void with_block1(struct call *q)
     uint32_t size = 16u << exponent, num = state->assembled.len / size;
     q->payload_len = more ? size : chance(size + 1);
     if (chance(4) == 0) {
-        num = chance(10) == 0 ? chance(4096) : chance(4);
+        num = chance(10) == 0 ? chance(chance(2) ? 4096 : 1048576) : chance(4);
         exponent = (uint8_t)chance(chance(10) == 0 ? 8 : 3);
         q->payload_len = chance(40);
     }

@@ -623,7 +623,7 @@ static void to_the_handler(void)
     static uint8_t upload[16 * 64], response[16 * 64];
     struct block_handler_config config = block_handler_default_config(true, 64, 64);
     struct block_handler_table table = block_handler_fresh();
-    struct block_handler_option block1 = block_handler_write(0, false, 0);
+    struct block_handler_option block1 = block_handler_write(config.strict, 0, false, 0);
     uint8_t bytes[64];
     start(2, 9);
     m.values = block1.bytes, m.payload = (const uint8_t *)"milk 1.19";

@@ -1,7 +1,8 @@
 //! Random calls, chosen with an eye on the table: most go on with what a key has begun, some are odd, a few are off the limits.
 
+use super::model::last_num;
 use crate::ffi::{BlockState, Entry, Table};
-use crate::{BlockHandlerConfig, Request, Response};
+use crate::{BlockHandlerConfig, Mode, Request, Response};
 
 /// Random numbers, the same in each run (the generator is SplitMix64).
 pub struct Random(pub u64);
@@ -32,28 +33,27 @@ impl Random {
     }
 }
 
-/// The bytes of an option: the first of them, up to three.
+/// The bytes of an option: the last of four, which spell its number, the most significant first.
 #[derive(Debug, Clone, Copy)]
 pub struct OptionBytes {
-    bytes: [u8; 3],
+    bytes: [u8; 4],
     len: usize,
 }
 
 impl OptionBytes {
-    /// In two bytes where it fits there, which is not always the shortest form, and in three elsewhere.
+    /// The shortest form.
     fn of(num: u64, more: bool, exponent: u8) -> Self {
         let scalar = (num * 16 + u64::from(more) * 8 + u64::from(exponent)) as u32;
-        let [_, a, b, c] = scalar.to_be_bytes();
-        match scalar {
-            0 => Self { bytes: [0; 3], len: 0 },
-            1..=0xff => Self { bytes: [c, 0, 0], len: 1 },
-            0x100..=0xffff => Self { bytes: [b, c, 0], len: 2 },
-            _ => Self { bytes: [a, b, c], len: 3 },
-        }
+        Self { bytes: scalar.to_be_bytes(), len: 4 - scalar.leading_zeros() as usize / 8 }
     }
 
-    fn bytes(&self) -> &[u8] {
-        &self.bytes[..self.len]
+    /// With as many zeros before it as make so many bytes.
+    fn widened(self, len: usize) -> Self {
+        Self { len: self.len.max(len), ..self }
+    }
+
+    pub fn bytes(&self) -> &[u8] {
+        &self.bytes[4 - self.len..]
     }
 }
 
@@ -134,18 +134,27 @@ impl Calls {
         &self.pool[at..at + len]
     }
 
+    /// The calls that follow are for a handler of this mode.
+    pub fn turn(&mut self, mode: Mode) {
+        self.config.mode = mode;
+    }
+
     /// The next call, for a table as it stands.
     pub fn next(&mut self, table: &Table) -> Call {
         let odd = self.random.below(400) == 0;
         let keys = self.keys.len() as u64 + if odd { 2 } else { 0 };
         let key = self.random.below(keys) as usize;
         let state = self.state(table, key);
-        let bare = self.bare();
-        let what = if self.random.percent(25) { self.some_response(state) } else { self.some_request(state) };
+        let (bare, what) = if self.random.percent(25) {
+            (self.response_bare(state), self.some_response(state))
+        } else {
+            let bare = self.bare();
+            (bare, self.some_request(state, bare))
+        };
         Call { time: self.time(table.clock), key, bare, what }
     }
 
-    fn state(&self, table: &Table, key: usize) -> BlockState {
+    pub fn state(&self, table: &Table, key: usize) -> BlockState {
         let key = self.key(key);
         let holds = |e: &&Entry| e.used && e.key.bytes.get(..usize::from(e.key.len)) == Some(key);
         table.entries.iter().find(holds).map_or_else(BlockState::default, |e| e.state)
@@ -173,19 +182,49 @@ impl Calls {
         }
     }
 
+    /// At times with such a room that the num of the block made is just the last one or just above it.
+    fn response_bare(&mut self, state: BlockState) -> usize {
+        let asked = u64::from(state.recorded.num) << (state.recorded.exponent % 8 + 4);
+        let room = (asked / (last_num(self.config.mode) + 1)) as usize + self.random.up_to(1);
+        match self.config.max_total_message_size.checked_sub(12 + room) {
+            Some(bare) if room > 0 && self.random.percent(50) => bare,
+            _ => self.bare(),
+        }
+    }
+
     fn part(&mut self, len: usize) -> (usize, usize) {
         (self.random.up_to(POOL - 1), len)
     }
 
-    fn some_request(&mut self, state: BlockState) -> What {
+    fn some_request(&mut self, state: BlockState, bare: usize) -> What {
         let (block1, len) = match self.random.below(100) {
-            0..=54 => self.next_block(state),
-            55..=69 => self.odd_block(state),
-            70..=72 => (Some(OptionBytes { bytes: [0, 0, 8], len: 3 }), self.random.up_to(64)),
+            0..=57 => self.next_block(state),
+            58..=72 => self.odd_block(state, bare),
             _ => (None, self.length(self.config.max_total_message_size / 2)),
         };
         let block2 = if self.random.percent(30) { Some(self.some_block2(state)) } else { None };
+        let (block1, block2) = (block1.map(|b| self.some_width(b)), block2.map(|b| self.some_width(b)));
         What::Request { block1, block2, payload: self.part(len) }
+    }
+
+    /// Mostly the shortest form, at times with zeros before it, in up to four bytes.
+    fn some_width(&mut self, option: OptionBytes) -> OptionBytes {
+        if self.random.percent(6) {
+            option.widened(2 + self.random.up_to(2))
+        } else {
+            option
+        }
+    }
+
+    /// A num at which the option gets longer or ends, or one for which, in this room, the num of the reply is just the last one or just
+    /// above it.
+    fn edge_num(&mut self, exponent: u8, room: u64) -> u64 {
+        if self.random.percent(50) {
+            return self.random.one_of(&[4095, 4096, 65_535, 65_536, 1_048_575, 1_048_576]);
+        }
+        let size = 16 << exponent;
+        let first_above = ((last_num(self.config.mode) + 1) * room.min(size)).div_ceil(size);
+        first_above.saturating_sub(self.random.below(2))
     }
 
     /// A length up to that, with the ends more often than the rest, and at times one off the limits.
@@ -212,12 +251,13 @@ impl Calls {
         (Some(OptionBytes::of(num, more, exponent)), len)
     }
 
-    fn odd_block(&mut self, state: BlockState) -> (Option<OptionBytes>, usize) {
+    fn odd_block(&mut self, state: BlockState, bare: usize) -> (Option<OptionBytes>, usize) {
         let exponent = self.random.below(8) as u8;
         let near = u64::from(state.assembled.len) >> (exponent + 4);
         let num = match self.random.below(10) {
             0 => self.random.below(4096),
             1 => (16_384 >> (exponent + 4)) + near + self.random.below(2) - 1,
+            2 => self.edge_num(exponent, self.config.max_total_message_size.saturating_sub(12 + bare) as u64),
             _ => self.random.below(near + 3),
         };
         let len = self.length((16 << exponent) + 2);
@@ -226,10 +266,23 @@ impl Calls {
 
     /// A chunk of the cached response, or one past its end, or any.
     fn some_block2(&mut self, state: BlockState) -> OptionBytes {
-        let exponent = if self.random.percent(10) { self.random.below(8) } else { self.random.below(3) } as u8;
+        let edge = self.random.percent(4);
+        let exponent = if edge || self.random.percent(10) { self.random.below(8) } else { self.random.below(3) } as u8;
         let chunks = u64::from(state.cached.payload) >> (exponent + 4);
-        let num = if self.random.percent(2) { self.random.below(70_000) } else { self.random.below(chunks + 2) };
+        let num = match self.random.below(100) {
+            _ if edge => self.edge_block2(exponent),
+            0 => self.random.below(70_000),
+            1 => self.random.below(1_048_576),
+            _ => self.random.below(chunks + 2),
+        };
         OptionBytes::of(num, self.random.percent(10), exponent)
+    }
+
+    /// The room is that of a response to come: one in which a num that can be read is too large for the reply.
+    fn edge_block2(&mut self, exponent: u8) -> u64 {
+        let most = if self.config.mode == Mode::Strict { 16 << exponent } else { 1 << exponent };
+        let room = 1 + self.random.below(most);
+        self.edge_num(exponent, room)
     }
 
     fn some_response(&mut self, state: BlockState) -> What {

@@ -8,7 +8,7 @@ use crate::{BlockHandler, BlockHandlerConfig, BlockValue, Refusal, Request, Requ
 fn full(piece: usize, block: usize, head: &[u8]) -> BlockHandler {
     let config = BlockHandlerConfig { max_upload: piece, max_response: piece, ..BlockHandlerConfig::default() };
     let mut handler = BlockHandler::new(config);
-    let asked = BlockValue::new(0, false, 16).unwrap().write();
+    let asked = BlockValue::new(handler.mode(), 0, false, 16).unwrap().write(handler.mode());
     for key in 0..ENTRIES as u8 {
         let request = Request { key: &[key], block2: Some(&asked), ..Request::default() };
         assert_eq!(handler.intercept_request(&request), Ok(RequestAnswer::Pass { body: &[] }));
@@ -16,7 +16,7 @@ fn full(piece: usize, block: usize, head: &[u8]) -> BlockHandler {
         let response = Response { key: &[key], head, payload: &page, ..Response::default() };
         assert!(matches!(handler.intercept_response(&response), Ok(ResponseAnswer::First { .. })));
         for num in 0..piece / block {
-            let block1 = BlockValue::new(num, true, block).unwrap().write();
+            let block1 = BlockValue::new(handler.mode(), num, true, block).unwrap().write(handler.mode());
             let request = Request { key: &[key], block1: Some(&block1), payload: &vec![key; block], ..Request::default() };
             assert!(matches!(handler.intercept_request(&request), Ok(RequestAnswer::Continue { .. })));
         }
@@ -31,7 +31,7 @@ fn the_most() {
     for (piece, block, head) in [(32, 16, &[9; 15][..]), (65_536, 1024, &[9; 128])] {
         let mut handler = full(piece, block, head);
         let most = 16 * (piece + piece) as u64;
-        let more = BlockValue::new(piece / block, true, block).unwrap().write();
+        let more = BlockValue::new(handler.mode(), piece / block, true, block).unwrap().write(handler.mode());
         let request = Request { time: 5, key: &[3], block1: Some(&more), payload: &vec![1; block], ..Request::default() };
         assert_eq!(handler.intercept_request(&request), Err(Refusal::NoRoom));
         assert_eq!(handler.bytes_held(), most);

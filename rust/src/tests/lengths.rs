@@ -4,15 +4,16 @@ use std::collections::BTreeMap;
 use std::time::Duration;
 
 use super::calls::{Calls, Random};
+use super::edges::Edges;
 use super::model::held;
 use super::Pair;
 use crate::ffi::{fresh, Entry, Table};
-use crate::{BlockHandler, BlockHandlerConfig, Refusal, Request, RequestAnswer, Response, ResponseAnswer};
+use crate::{BlockHandler, BlockHandlerConfig, BlockValue, Mode, Refusal, Request, RequestAnswer, Response, ResponseAnswer};
 
 const CONFIG: BlockHandlerConfig = BlockHandlerConfig {
     max_total_message_size: 100,
     cache_expiry_duration: Duration::from_millis(1000),
-    strict: false,
+    mode: Mode::Plain,
     max_upload: 64,
     max_response: 48,
 };
@@ -60,14 +61,16 @@ fn configurations() {
         BlockHandlerConfig { cache_expiry_duration: millis(4_294_967_296), ..CONFIG },
         BlockHandlerConfig { cache_expiry_duration: Duration::MAX, ..CONFIG },
         BlockHandlerConfig { max_upload: 15, ..CONFIG },
-        BlockHandlerConfig { max_upload: 65_537, ..CONFIG },
+        BlockHandlerConfig { max_upload: 16_777_217, ..CONFIG },
         BlockHandlerConfig { max_upload: usize::MAX, ..CONFIG },
         BlockHandlerConfig { max_upload: 1 << 60, max_response: 1 << 60, ..CONFIG },
         BlockHandlerConfig { max_response: 15, ..CONFIG },
         BlockHandlerConfig { max_response: 65_537, ..CONFIG },
     ];
     for config in off {
-        refused(&mut BlockHandler::new(config), &REQUEST);
+        for mode in [Mode::Plain, Mode::Strict] {
+            refused(&mut BlockHandler::new(BlockHandlerConfig { mode, ..config }), &REQUEST);
+        }
     }
     let within = [
         BlockHandlerConfig { max_total_message_size: 65_535, ..CONFIG },
@@ -75,9 +78,34 @@ fn configurations() {
         BlockHandlerConfig { cache_expiry_duration: millis(4_294_967_295), ..CONFIG },
         BlockHandlerConfig { max_upload: 16, max_response: 16, ..CONFIG },
         BlockHandlerConfig { max_upload: 65_536, max_response: 65_536, ..CONFIG },
+        BlockHandlerConfig { max_upload: 65_537, ..CONFIG },
     ];
     for config in within {
-        taken(&mut BlockHandler::new(config), &REQUEST);
+        for mode in [Mode::Plain, Mode::Strict] {
+            taken(&mut BlockHandler::new(BlockHandlerConfig { mode, ..config }), &REQUEST);
+        }
+    }
+}
+
+/// Pieces of the largest size are taken, and a byte more is refused although the memory is as long as it should be. The memories are never
+/// read here, so they take no room.
+#[test]
+fn the_largest_pieces() {
+    for mode in [Mode::Plain, Mode::Strict] {
+        for (max_upload, max_response, within) in [(16_777_216, 65_536, true), (16_777_217, 65_536, false), (16_777_216, 65_537, false)] {
+            let config = BlockHandlerConfig { mode, max_upload, max_response, ..CONFIG };
+            let mut handler = BlockHandler::with_memories(config, vec![0; 16 * max_upload], vec![0; 16 * max_response]);
+            if within {
+                taken(&mut handler, &REQUEST);
+            } else {
+                assert_eq!(handler.intercept_request(&REQUEST), Err(Refusal::OffLimits));
+                assert_eq!(handler.intercept_response(&RESPONSE), Err(Refusal::OffLimits));
+                assert_eq!(handler.table, fresh());
+            }
+        }
+        let config = BlockHandlerConfig { mode, max_upload: 16_777_216, max_response: 65_536, ..CONFIG };
+        let handler = BlockHandler::new(config);
+        assert_eq!((handler.upload.len(), handler.response.len()), (268_435_456, 1_048_576));
     }
 }
 
@@ -108,9 +136,14 @@ fn messages() {
 #[test]
 fn options_of_any_length() {
     let long = vec![0; 5000];
-    let mut handler = BlockHandler::new(CONFIG);
-    for option in [&long[..3], &long] {
-        taken(&mut handler, &Request { block1: Some(option), block2: Some(option), ..REQUEST });
+    for (mode, most) in [(Mode::Plain, 2), (Mode::Strict, 3)] {
+        let mut handler = BlockHandler::new(BlockHandlerConfig { mode, ..CONFIG });
+        for option in [&long[..most + 1], &long] {
+            taken(&mut handler, &Request { block1: Some(option), block2: Some(option), ..REQUEST });
+        }
+        let read = Request { block1: Some(&long[..most]), ..REQUEST };
+        let handed = RequestAnswer::Handed { block1: BlockValue::default(), body: REQUEST.payload };
+        assert_eq!(handler.intercept_request(&read), Ok(handed));
     }
 }
 
@@ -186,7 +219,7 @@ fn other_lengths() {
 
 /// Changes one field of one entry, the clock or the bytes held. Some of what comes out is still within the limits.
 fn damage(random: &mut Random, table: &mut Table) {
-    let number = random.one_of(&[0, 1, 16, 48, 49, 64, 65, 1_048_575, 1_048_576, u32::MAX]);
+    let number = random.one_of(&[0, 1, 16, 48, 49, 64, 65, 65_535, 65_536, 1_048_575, 1_048_576, u32::MAX]);
     let byte = random.one_of(&[0, 1, 7, 8, 64, 65, 128, 129, 255]);
     let (i, j) = (random.below(16) as usize, random.below(16) as usize);
     let twin = table.entries[j];
@@ -227,13 +260,14 @@ fn damaged_tables() {
     // Of the tables whose lengths count otherwise: whether the figure was set right, and whether the call was refused by 1.
     let mut recounted = BTreeMap::new();
     for seed in 0..100 {
-        let config = BlockHandlerConfig { strict: seed % 2 == 0, ..CONFIG };
+        let mode = if seed % 2 == 0 { Mode::Strict } else { Mode::Plain };
+        let config = BlockHandlerConfig { mode, ..CONFIG };
         let mut calls = Calls::new(seed, config, random.one_of(&[3, 15, 16]));
         let mut pair = Pair::new(config);
         pair.run(&mut calls, 200);
         for _ in 0..100 {
             let call = calls.next(&pair.model.table);
-            let mut damaged = Pair { ours: pair.ours.clone(), model: pair.model.clone(), seen };
+            let mut damaged = Pair { ours: pair.ours.clone(), model: pair.model.clone(), seen, edges: Edges::default() };
             damage(&mut random, &mut damaged.ours.table);
             damaged.model.table = damaged.ours.table;
             let Table { held: figure, entries, .. } = damaged.ours.table;

@@ -1,8 +1,10 @@
 //! The archive's answers, table and memories against a plain model of document 01, call by call.
 
 mod calls;
+mod edges;
 mod held;
 mod lengths;
+mod long;
 mod messages;
 mod model;
 mod parts;
@@ -10,10 +12,12 @@ mod runs;
 mod values;
 
 use std::collections::BTreeMap;
+use std::fmt::Debug;
 
 use self::calls::{Call, Calls};
+use self::edges::Edges;
 use self::model::Model;
-use crate::{BlockHandler, BlockHandlerConfig, Refusal, RequestAnswer, ResponseAnswer};
+use crate::{BlockHandler, BlockHandlerConfig, Mode, Refusal, Request, RequestAnswer, Response, ResponseAnswer};
 
 /// A memory between two fences, which no call may touch.
 #[derive(Clone)]
@@ -50,37 +54,54 @@ struct Pair {
     model: Model,
     /// How often each answer was given.
     seen: BTreeMap<&'static str, u64>,
+    /// How often each edge was reached.
+    edges: Edges,
 }
 
 impl Pair {
     fn new(config: BlockHandlerConfig) -> Self {
         let BlockHandler { config: numbers, table, upload, response } = BlockHandler::new(config);
         let ours = BlockHandler::with_memories(config, Fenced::new(&upload), Fenced::new(&response));
-        Self { ours, model: Model { config: numbers, table, upload, response }, seen: BTreeMap::new() }
+        let model = Model { config: numbers, table, upload, response };
+        Self { ours, model, seen: BTreeMap::new(), edges: Edges::default() }
+    }
+
+    /// The same tables and memories go on in this mode.
+    fn turn(&mut self, mode: Mode) {
+        self.ours.config.strict = mode == Mode::Strict;
+        self.model.config.strict = mode == Mode::Strict;
     }
 
     /// Makes the call on both sides. The answers, the tables with the bytes held, and every byte of the memories have to be the same.
     /// Gives the answer's name.
     fn call(&mut self, calls: &Calls, call: &Call) -> &'static str {
         let name = match calls.request(call) {
-            Some(request) => {
-                let ours = self.ours.intercept_request(&request);
-                assert_eq!(ours, self.model.intercept_request(&request), "{call:?}");
-                ours.map_or_else(refusal_name, request_name)
-            }
-            None => {
-                let response = calls.response(call).expect("a call is a request or a response");
-                let ours = self.ours.intercept_response(&response);
-                assert_eq!(ours, self.model.intercept_response(&response), "{call:?}");
-                ours.map_or_else(refusal_name, response_name)
-            }
+            Some(request) => self.request(&request),
+            None => self.response(&calls.response(call).expect("a call is a request or a response")),
         };
-        self.same_state(call);
         *self.seen.entry(name).or_default() += 1;
+        let recorded = calls.state(&self.model.table, call.key).recorded.value();
+        self.edges.note(&self.model.config, call, recorded, name);
         name
     }
 
-    fn same_state(&self, call: &Call) {
+    fn request(&mut self, request: &Request) -> &'static str {
+        let ours = self.ours.intercept_request(request);
+        assert_eq!(ours, self.model.intercept_request(request), "{request:?}");
+        let name = ours.map_or_else(refusal_name, request_name);
+        self.same_state(request);
+        name
+    }
+
+    fn response(&mut self, response: &Response) -> &'static str {
+        let ours = self.ours.intercept_response(response);
+        assert_eq!(ours, self.model.intercept_response(response), "{response:?}");
+        let name = ours.map_or_else(refusal_name, response_name);
+        self.same_state(response);
+        name
+    }
+
+    fn same_state(&self, call: &dyn Debug) {
         let (ours, model) = (&self.ours, &self.model);
         assert_eq!(ours.table, model.table, "{call:?}");
         assert_eq!(ours.bytes_held(), model.table.held, "bytes held, {call:?}");

@@ -1,8 +1,8 @@
-//! Document 01 once more, in plain Rust and from its text alone. Its sections are the headings below. It shares with the crate the
-//! form of the table and of the answers, and no rule.
+//! Document 01 once more, with what document 02 adds on longer lists, in plain Rust and from their text alone. Document 01's sections are
+//! the headings below. It shares with the crate the form of the table and of the answers, and no rule.
 
 use crate::ffi::{Assembled, Block, BlockState, Cached, Config, Entry, Key, Table};
-use crate::{BlockValue, Refusal, Request, RequestAnswer, Response, ResponseAnswer};
+use crate::{BlockValue, Mode, Refusal, Request, RequestAnswer, Response, ResponseAnswer};
 
 const OPTIONS: u64 = 12;
 const JUMP: u64 = 16_384;
@@ -17,9 +17,27 @@ pub struct Model {
 
 // Block value
 
-pub fn make(num: u64, more: bool, size: u64) -> Option<BlockValue> {
+/// The largest num that is made: in strict mode 1,048,575 instead of 65,535.
+pub fn last_num(mode: Mode) -> u64 {
+    if mode == Mode::Strict {
+        1_048_575
+    } else {
+        65_535
+    }
+}
+
+/// How many bytes an option may have: in strict mode 3, and plain mode keeps two.
+fn option_bytes(mode: Mode) -> usize {
+    if mode == Mode::Strict {
+        3
+    } else {
+        2
+    }
+}
+
+pub fn make(mode: Mode, num: u64, more: bool, size: u64) -> Option<BlockValue> {
     let exponent = size.checked_ilog2()?.saturating_sub(4);
-    (exponent <= 7 && num <= 65_535).then_some(BlockValue { num: num as u32, more, size_exponent: exponent as u8 })
+    (exponent <= 7 && num <= last_num(mode)).then_some(BlockValue { num: num as u32, more, size_exponent: exponent as u8 })
 }
 
 pub fn size(block: BlockValue) -> u64 {
@@ -31,25 +49,38 @@ fn start(block: BlockValue) -> u64 {
 }
 
 /// Unreadable counts as absent.
-pub fn read(option: Option<&[u8]>) -> Option<BlockValue> {
-    let option = option.filter(|bytes| bytes.len() <= 2)?;
+pub fn read(mode: Mode, option: Option<&[u8]>) -> Option<BlockValue> {
+    let option = option.filter(|bytes| bytes.len() <= option_bytes(mode))?;
     let n = option.iter().fold(0, |n, &byte| n * 256 + u32::from(byte));
     Some(BlockValue { num: n / 16, more: n / 8 % 2 == 1, size_exponent: (n % 8) as u8 })
 }
 
+/// The shortest form. The num is taken modulo 4096, and in strict mode modulo 1,048,576, so that it fits in the option's bytes.
+pub fn write(mode: Mode, block: BlockValue) -> Vec<u8> {
+    let nums = 256_u32.pow(option_bytes(mode) as u32) / 16;
+    let mut n = block.num % nums * 16 + if block.more { 8 } else { 0 } + u32::from(block.size_exponent);
+    let mut bytes = Vec::new();
+    while n > 0 {
+        bytes.insert(0, (n % 256) as u8);
+        n /= 256;
+    }
+    bytes
+}
+
 // Negotiation
 
-fn negotiate(block: Option<BlockValue>, bare: u64, p: u64, t: u64) -> Result<Option<BlockValue>, Refusal> {
+fn negotiate(config: &Config, block: Option<BlockValue>, bare: usize, p: u64) -> Result<Option<BlockValue>, Refusal> {
+    let (mode, bare, t) = (config.mode(), bare as u64, config.limit as u64);
     if bare + OPTIONS > t {
         return Err(Refusal::TooLargeToEncode);
     }
     let m = t - bare - OPTIONS;
     let made = match block {
         None if p < m => return Ok(None),
-        None => make(0, true, m),
+        None => make(mode, 0, true, m),
         Some(k) => match size(k).min(m) {
             0 => None,
-            g => make(start(k) / g, start(k) + g < p, g),
+            g => make(mode, start(k) / g, start(k) + g < p, g),
         },
     };
     made.map(Some).ok_or(Refusal::NoBlockValue)
@@ -113,7 +144,7 @@ impl Model {
         let c = &self.config;
         (1..=65_535).contains(&c.limit)
             && (1..=4_294_967_295).contains(&c.lifetime)
-            && (16..=65_536).contains(&c.upload)
+            && (16..=16_777_216).contains(&c.upload)
             && (16..=65_536).contains(&c.response)
             && self.upload.len() == 16 * c.upload
             && self.response.len() == 16 * c.response
@@ -203,8 +234,8 @@ fn answer_request<'a>(
     request: &Request<'a>,
 ) -> Result<RequestAnswer<'a>, Refusal> {
     let Request { bare, payload, .. } = *request;
-    let (block1, block2) = (read(request.block1), read(request.block2));
-    let reply = negotiate(block1, bare as u64, payload.len() as u64, config.limit as u64)?;
+    let (block1, block2) = (read(config.mode(), request.block1), read(config.mode(), request.block2));
+    let reply = negotiate(config, block1, bare, payload.len() as u64)?;
 
     let mut completed = None;
     match (block1, reply) {
@@ -289,7 +320,7 @@ fn answer_response<'a>(
         return Ok(ResponseAnswer::Plain);
     }
     let n = payload.len() as u64;
-    let Some(block) = negotiate(recorded(state), bare as u64, n, config.limit as u64)? else {
+    let Some(block) = negotiate(config, recorded(state), bare, n)? else {
         return Ok(ResponseAnswer::Plain);
     };
     let (from, to, block2) = chunk(n, block)?;

@@ -3,13 +3,13 @@
 use std::ops::Range;
 use std::time::Duration;
 
-use crate::{BlockHandler, BlockHandlerConfig, BlockValue, Refusal, Request, RequestAnswer, Response, ResponseAnswer};
+use crate::{BlockHandler, BlockHandlerConfig, BlockValue, Mode, Refusal, Request, RequestAnswer, Response, ResponseAnswer};
 
 /// The script program's configuration, whose example follows.
 const CONFIG: BlockHandlerConfig = BlockHandlerConfig {
     max_total_message_size: 64,
     cache_expiry_duration: Duration::from_secs(120),
-    strict: false,
+    mode: Mode::Plain,
     max_upload: 2048,
     max_response: 1024,
 };
@@ -85,7 +85,7 @@ fn a_head_is_shown_with_each_chunk() {
 #[test]
 fn lent_memories() {
     let (mut upload, mut response) = ([0; 16 * 32], [0; 16 * 16]);
-    let config = BlockHandlerConfig { max_upload: 32, max_response: 16, strict: true, ..CONFIG };
+    let config = BlockHandlerConfig { max_upload: 32, max_response: 16, mode: Mode::Strict, ..CONFIG };
     let mut handler = BlockHandler::with_memories(config, &mut upload[..], &mut response[..]);
     let request = Request { key: b"k", block1: Some(&[0x00]), payload: b"whole", ..Request::default() };
     assert_eq!(handler.intercept_request(&request).unwrap().body(), b"whole");
@@ -94,7 +94,7 @@ fn lent_memories() {
 
 #[test]
 fn codes() {
-    let mut handler = BlockHandler::new(BlockHandlerConfig { strict: true, ..CONFIG });
+    let mut handler = BlockHandler::new(BlockHandlerConfig { mode: Mode::Strict, ..CONFIG });
     let request = Request { key: b"k", block1: Some(&[0x08]), payload: &[1; 16], ..Request::default() };
     assert_eq!(handler.intercept_request(&request).unwrap().response_code(), Some(0x5f));
     assert_eq!(handler.intercept_request(&Request { block1: None, payload: &[1; 60], ..request }).unwrap().response_code(), Some(0x8d));
