@@ -152,7 +152,7 @@ fn sixteen_mebibytes() {
         slices.push(start.elapsed());
     }
     handed(&mut handler, u64::from(BLOCKS), BLOCKS - 1, 0, &block_bytes(BLOCKS - 1), &list);
-    let (first, last) = (least(&slices[..8]), least(&slices[56..]));
+    let (first, last) = (least(&slices[..16]), least(&slices[48..]));
     println!(
         "long upload: {BLOCKS} blocks of 16 bytes, {:.1} s; {} blocks in {first:.2} ms at the start and {last:.2} ms at the end; \
          {} turns of three other lanes, {} refusals",
