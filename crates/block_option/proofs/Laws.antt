@@ -10,8 +10,7 @@ use lib.Dec.{ltb}
 use lib.ListN.{length, take, getD, length-append}
 use lib.Seq.{take-all, take-suc}
 use borrow.Author.Tests.{ltb-true, ltb-false, lt-ltb, le-ltb, eq-eqb, ne-eqb}
-use Rattle.config.specs.declared.Config.{Config}
-use Rattle.config.specs.Mode.{optionBytes, nums}
+use Rattle.config.specs.Mode.{byteLimit, nums}
 use Rattle.config.proofs.Mode.{nums-bytes}
 use Rattle.block_value.specs.declared.BlockValue.{BlockValue}
 use Rattle.block_option.specs.Uint.{uint, Bytes, shortest}
@@ -70,35 +69,35 @@ uint-below (b ∷ l) h =
 
 -- ---- read, by the option's length
 
-module _ (c : Config) (option : List ℕ) where
-  pub read-few : length option ≤ optionBytes (c .strict) → readOf c option ≡ Value (unpacked (uint option))
+module _ (strict : Bool) (option : List ℕ) where
+  pub read-few : length option ≤ byteLimit strict → readOf strict option ≡ Value (unpacked (uint option))
   unfolding readOf
-  read-few h = rw (le-ltb (optionBytes (c .strict)) (length option) h)
+  read-few h = rw (le-ltb (byteLimit strict) (length option) h)
 
-  pub read-long : optionBytes (c .strict) < length option → readOf c option ≡ Unreadable
+  pub read-long : byteLimit strict < length option → readOf strict option ≡ Unreadable
   unfolding readOf
-  read-long h = rw (lt-ltb (optionBytes (c .strict)) (length option) h)
+  read-long h = rw (lt-ltb (byteLimit strict) (length option) h)
 
   -- what was read is what the bytes spell
-  read-is : (b : BlockValue) → readOf c option ≡ Value b → (length option ≤ optionBytes (c .strict)) × (b ≡ unpacked (uint option))
-  read-is b e = go (ltb (optionBytes (c .strict)) (length option)) refl
+  read-is : (b : BlockValue) → readOf strict option ≡ Value b → (length option ≤ byteLimit strict) × (b ≡ unpacked (uint option))
+  read-is b e = go (ltb (byteLimit strict) (length option)) refl
     where
-      go : (long : Bool) → ltb (optionBytes (c .strict)) (length option) ≡ long → (length option ≤ optionBytes (c .strict)) × (b ≡ unpacked (uint option))
+      go : (long : Bool) → ltb (byteLimit strict) (length option) ≡ long → (length option ≤ byteLimit strict) × (b ≡ unpacked (uint option))
       go true l = let no : Unreadable ≡ Value b = sym (read-long (ltb-true _ _ l)) ∙ e in let z : _≡_ {A = ℕ} 0 1 = cc in absurd (omega arith)
       go false l =
-          let few = ltb-false (optionBytes (c .strict)) (length option) l in
+          let few = ltb-false (byteLimit strict) (length option) l in
           let same : Value (unpacked (uint option)) ≡ Value b = sym (read-few few) ∙ e in
           let is : b ≡ unpacked (uint option) = cc in
           (few, is)
 
-  pub read-exponent : (b : BlockValue) → readOf c option ≡ Value b → b .«size_exponent» ≤ 7
+  pub read-exponent : (b : BlockValue) → readOf strict option ≡ Value b → b .«size_exponent» ≤ 7
   read-exponent b e = rw (read-is b e .1) (omega arith)
 
-  pub read-num : (b : BlockValue) → Bytes option → readOf c option ≡ Value b → b .num < nums (c .strict)
+  pub read-num : (b : BlockValue) → Bytes option → readOf strict option ≡ Value b → b .num < nums strict
   read-num b h e =
       let told = read-is b e in
-      let wide : 256 ^ length option ≤ 256 ^ optionBytes (c .strict) = pow-le-pow-right (omega arith) (told .0) in
-      rw (told .1) (omega (arith, uint-below option h, nums-bytes (c .strict)))
+      let wide : 256 ^ length option ≤ 256 ^ byteLimit strict = pow-le-pow-right (omega arith) (told .0) in
+      rw (told .1) (omega (arith, uint-below option h, nums-bytes strict))
 
 -- ---- write, by the number's size
 

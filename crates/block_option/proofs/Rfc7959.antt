@@ -8,8 +8,7 @@ use native.Mathlib.Omega.{arith}
 use lib.Dec.{eqb}
 use lib.ListN.{length, take, length-append}
 use borrow.Author.Tests.{eqb-true, eqb-false}
-use Rattle.config.specs.declared.Config.{Config}
-use Rattle.config.specs.Mode.{optionBytes, nums}
+use Rattle.config.specs.Mode.{byteLimit, nums}
 use Rattle.config.proofs.Mode.{bytes-most, nums-least, nums-bytes}
 use Rattle.block_value.proofs.Laws.{size-is}
 use Rattle.block_value.specs.declared.BlockValue.{BlockValue}
@@ -99,60 +98,54 @@ in-three (x ∷ y ∷ []) h = refl
 in-three (x ∷ y ∷ z ∷ []) h = refl
 in-three (x ∷ y ∷ z ∷ w ∷ l) h = absurd (omega arith)
 
-module _ (c : Config) where
+module _ (strict : Bool) where
   abbrev most : ℕ
-  most = optionBytes (c .strict)
+  most = byteLimit strict
 
-  read-holds : (option : List ℕ) → Bytes option → length option ≤ most → (b : BlockValue) × (readOf c option ≡ Value b) × HoldsBlock option b × (b .num ≤ nums (c .strict) - 1)
+  read-holds : (option : List ℕ) → Bytes option → length option ≤ most → (b : BlockValue) × (readOf strict option ≡ Value b) × HoldsBlock option b × (b .num ≤ nums strict - 1)
   read-holds option b h =
-      let is = read-few c option h in
-      (unpacked (uint option), is, unpacked-holds option b (omega (arith, bytes-most (c .strict))), omega (arith, read-num c option _ b is))
+      let is = read-few strict option h in
+      (unpacked (uint option), is, unpacked-holds option b (omega (arith, bytes-most strict)), omega (arith, read-num strict option _ b is))
 
-  read-held : (option : List ℕ) → length option ≤ most → (b : BlockValue) → HoldsBlock option b → readOf c option ≡ Value b
+  read-held : (option : List ℕ) → length option ≤ most → (b : BlockValue) → HoldsBlock option b → readOf strict option ≡ Value b
   read-held option h b holds =
       let same = holds-one option _ (b .num) _ (b .more) _ (b .«size_exponent») (unpacked-holds option (holds .bytes) (holds .few)) holds in
-      read-few c option h ∙ (λ i. Value (record { num = same .0 i; more = same .1 i; «size_exponent» = same .2 i }))
+      read-few strict option h ∙ (λ i. Value (record { num = same .0 i; more = same .1 i; «size_exponent» = same .2 i }))
 
   -- ---- write
 
-  module _ (b : BlockValue) (few : b .num ≤ nums (c .strict) - 1) (known : b .«size_exponent» ≤ 7) where
-    num-kept : b .num % nums (c .strict) ≡ b .num
-    num-kept = mod-eq-of-lt (omega (arith, nums-least (c .strict)))
+  module _ (b : BlockValue) (few : b .num ≤ nums strict - 1) (known : b .«size_exponent» ≤ 7) where
+    num-kept : b .num % nums strict ≡ b .num
+    num-kept = mod-eq-of-lt (omega (arith, nums-least strict))
 
-    packed-is : packed c b ≡ b .num * 16 + cond (b .more) 8 0 + b .«size_exponent»
+    packed-is : packed strict b ≡ b .num * 16 + cond (b .more) 8 0 + b .«size_exponent»
     packed-is = rw num-kept (omega arith)
 
-    packed-below : packed c b < 256 ^ most
-    packed-below = rw (packed-is, ← nums-bytes (c .strict)) (go (b .more))
+    packed-below : packed strict b < 256 ^ most
+    packed-below = rw (packed-is, ← nums-bytes strict) (go (b .more))
       where
-        go : (m : Bool) → b .num * 16 + cond m 8 0 + b .«size_exponent» < nums (c .strict) * 16
-        go true = omega (arith, nums-least (c .strict))
-        go false = omega (arith, nums-least (c .strict))
+        go : (m : Bool) → b .num * 16 + cond m 8 0 + b .«size_exponent» < nums strict * 16
+        go true = omega (arith, nums-least strict)
+        go false = omega (arith, nums-least strict)
 
-    three : packed c b < 256 ^ 3
-    three = let wide : 256 ^ most ≤ 256 ^ 3 = pow-le-pow-right (omega arith) (bytes-most (c .strict)) in omega (arith, packed-below)
+    three : packed strict b < 256 ^ 3
+    three = let wide : 256 ^ most ≤ 256 ^ 3 = pow-le-pow-right (omega arith) (bytes-most strict) in omega (arith, packed-below)
 
-    write-holds : HoldsBlock (written c b) b × Fewest (written c b) × (length (written c b) ≤ most) × (readOf c (written c b) ≡ Value b)
+    write-holds : HoldsBlock (written strict b) b × Fewest (written strict b) × (length (written strict b) ≤ most) × (readOf strict (written strict b) ≡ Value b)
     write-holds =
-        let short : length (written c b) ≤ most = takes 3 most (packed c b) packed-below in
-        let holds : HoldsBlock (written c b) b =
-        record { bytes = bytes 3 (packed c b); few = omega (arith, bytes-most (c .strict)); scalar = spells 3 (packed c b) three ∙ packed-is; three-bits = omega arith } in
-        (holds, fewest 3 (packed c b) three, short, read-held (written c b) short b holds)
+        let short : length (written strict b) ≤ most = takes 3 most (packed strict b) packed-below in
+        let holds : HoldsBlock (written strict b) b =
+        record { bytes = bytes 3 (packed strict b); few = omega (arith, bytes-most strict); scalar = spells 3 (packed strict b) three ∙ packed-is; three-bits = omega arith } in
+        (holds, fewest 3 (packed strict b) three, short, read-held (written strict b) short b holds)
 
   -- The bytes that `write` returns are those, and only those.
-  pub returned : (b : BlockValue) → take (inThree (written c b) .len) (inThree (written c b) .bytes) ≡ written c b
-  returned b = in-three (written c b) (within 3 (packed c b))
+  pub returned : (b : BlockValue) → take (inThree (written strict b) .len) (inThree (written strict b) .bytes) ≡ written strict b
+  returned b = in-three (written strict b) (within 3 (packed strict b))
 
 -- in either mode, for its own numbers
-pub as-the-rfc : (strict : Bool) → AsTheRfc strict (optionBytes strict) (nums strict - 1)
-as-the-rfc strict =
-    record {
-      read = λ c e option b h. rw (← e) (read-holds c option b (rw (← e) at h));
-      one = λ c e option h. read-held c option (rw (← e) at h);
-      unread = λ c e option h. read-long c option (rw (← e) at h);
-      write = λ c e b few known. rw (← e) (write-holds c b (rw (← e) at few) known);
-    }
+pub as-the-rfc : (strict : Bool) → AsTheRfc strict (byteLimit strict) (nums strict - 1)
+as-the-rfc strict = record { read = read-holds strict; one = read-held strict; unread = read-long strict; write = write-holds strict }
 
 pub both-modes : BothModes
-unfolding optionBytes nums
+unfolding byteLimit nums
 both-modes = record { strict = as-the-rfc true; plain = as-the-rfc false; size = λ szx h. size-is szx (omega arith) }

@@ -4,7 +4,6 @@ use mathlib.Core.Bool.{Bool, true, false, cond}
 use mathlib.Core.Path.{_≡_}
 use mathlib.Core.List.{List}
 use lib.ListN.{length}
-use Rattle.config.specs.declared.Config.{Config}
 use Rattle.block_value.specs.Value.{sizeOf}
 use Rattle.block_value.specs.declared.BlockValue.{BlockValue}
 use Rattle.block_option.specs.declared.Reading.the-variants.{Value, Unreadable}
@@ -30,19 +29,19 @@ Fewest option = (other : List ℕ) → Bytes other → uint other ≡ uint optio
 abbrev pub HoldsBlock : List ℕ → BlockValue → Type 0
 HoldsBlock option b = Holds option (b .num) (b .more) (b .«size_exponent»)
 
--- What a mode keeps of it, for options of at most `most` bytes and for nums of at most `last`.
+-- What reading and writing in a mode keep of it, for options of at most `most` bytes and for nums of at most `last`. (The reserved SZX 7 is read and written like any other:
+-- a difference, which is listed.)
 pub record AsTheRfc (strict : Bool) (most last : ℕ) : Type 0 where
   -- Such an option is read, whether or not it is the shortest form, and as what it holds: it holds one value and no other.
-  pub read : (c : Config) → c .strict ≡ strict → (option : List ℕ) → Bytes option → length option ≤ most
-      → (b : BlockValue) × (readOf c option ≡ Value b) × HoldsBlock option b × (b .num ≤ last)
-  pub one : (c : Config) → c .strict ≡ strict → (option : List ℕ) → length option ≤ most → (b : BlockValue) → HoldsBlock option b → readOf c option ≡ Value b
+  pub read : (option : List ℕ) → Bytes option → length option ≤ most → (b : BlockValue) × (readOf strict option ≡ Value b) × HoldsBlock option b × (b .num ≤ last)
+  pub one : (option : List ℕ) → length option ≤ most → (b : BlockValue) → HoldsBlock option b → readOf strict option ≡ Value b
   -- A longer one is not.
-  pub unread : (c : Config) → c .strict ≡ strict → (option : List ℕ) → most < length option → readOf c option ≡ Unreadable
+  pub unread : (option : List ℕ) → most < length option → readOf strict option ≡ Unreadable
   -- What is written is the shortest form, which holds the value and is read as it.
-  pub write : (c : Config) → c .strict ≡ strict → (b : BlockValue) → b .num ≤ last → b .«size_exponent» ≤ 7
-      → HoldsBlock (written c b) b × Fewest (written c b) × (length (written c b) ≤ most) × (readOf c (written c b) ≡ Value b)
+  pub write : (b : BlockValue) → b .num ≤ last → b .«size_exponent» ≤ 7
+      → HoldsBlock (written strict b) b × Fewest (written strict b) × (length (written strict b) ≤ most) × (readOf strict (written strict b) ≡ Value b)
 
--- Strict mode keeps all of it: 3 bytes, and a num of 20 bits. Plain mode keeps two bytes, and 12 bits. And for SZX 0 to 6 the size is the RFC's.
+-- Strict mode keeps the RFC's layout whole: 3 bytes, and a num of 20 bits. Plain mode keeps two bytes, and 12 bits. And for SZX 0 to 6 the size is the RFC's.
 pub record BothModes : Type 0 where
   pub strict : AsTheRfc true 3 1048575
   pub plain : AsTheRfc false 2 4095

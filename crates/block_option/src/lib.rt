@@ -1,6 +1,5 @@
-// The bytes of a Block1 or Block2 option: read, write. Both take the configuration, since it is the mode that says how many bytes an option may have.
+// The bytes of a Block1 or Block2 option: read, write. Both take the mode, which says how many bytes an option may have.
 use block_value::BlockValue;
-use config::Config;
 ghost use mathlib.Core.Path.{_≡_};
 ghost use Prim.Native.Nat.{_%_, _^_, _<_, _≤_};
 ghost use lib.ListN.{length};
@@ -45,29 +44,26 @@ fn scalar_of(option: &[u8]) -> u32
     scalar
 }
 
-pub fn read(config: Config, option: &[u8]) -> Reading
-    ensures { λ r. ⌜ r ≡ readOf config (now (option .entry)) ⌝ }
+pub fn read(strict: bool, option: &[u8]) -> Reading
+    ensures { λ r. ⌜ r ≡ readOf strict (now (option .entry)) ⌝ }
 {
-    if config::option_bytes(config) < option.len() {
+    if config::byte_limit(strict) < option.len() {
         return Reading::Unreadable;
     }
     Reading::Value(unpack(scalar_of(option)))
 }
 
 // The num as far as an option of the mode can hold it.
-fn kept_num(config: Config, num: u32) -> u32
-    ensures { λ r. ⌜ (r ≡ num % nums (config .strict)) × (r < 2 ^ 20) ⌝ }
+fn kept_num(strict: bool, num: u32) -> u32
+    ensures { λ r. ⌜ (r ≡ num % nums strict) × (r < 2 ^ 20) ⌝ }
 {
-    if config.strict {
-        return num % 1048576;
-    }
-    num % 4096
+    num % config::nums(strict)
 }
 
-fn pack(config: Config, block: BlockValue) -> u32
-    ensures { λ r. ⌜ (r ≡ packed config block) × (r < 2 ^ 24) ⌝ }
+fn pack(strict: bool, block: BlockValue) -> u32
+    ensures { λ r. ⌜ (r ≡ packed strict block) × (r < 2 ^ 24) ⌝ }
 {
-    let num = kept_num(config, block.num);
+    let num = kept_num(strict, block.num);
     let exponent = wide::u32_of_u8(block.size_exponent % 8);
     if block.more {
         return num * 16 + 8 + exponent;
@@ -75,10 +71,10 @@ fn pack(config: Config, block: BlockValue) -> u32
     num * 16 + exponent
 }
 
-pub fn write(config: Config, block: BlockValue) -> Written
-    ensures { λ r. ⌜ r ≡ inThree (written config block) ⌝ }
+pub fn write(strict: bool, block: BlockValue) -> Written
+    ensures { λ r. ⌜ r ≡ inThree (written strict block) ⌝ }
 {
-    let scalar = pack(config, block);
+    let scalar = pack(strict, block);
     if scalar == 0 {
         return Written {
             len: 0,

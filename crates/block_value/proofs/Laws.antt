@@ -8,7 +8,6 @@ use native.Mathlib.Omega.{arith}
 use lib.Dec.{lit<}
 use lib.Pow.{pow-add, pow-mono, pow-lt, shl-exact}
 use borrow.Author.Tests.{le-leb, lt-leb, lt-ltb, le-ltb, eq-eqb, ne-eqb}
-use Rattle.config.specs.declared.Config.{Config}
 use Rattle.config.specs.Mode.{numLimit}
 use Rattle.block_value.specs.Value.{largestPower, exponentOf, made, sizeOf}
 use Rattle.block_value.specs.declared.Made.the-variants as made-variants
@@ -66,20 +65,20 @@ exponent-size e h =
 
 -- ---- make, by its cases
 
-module _ (c : Config) (num : ℕ) (more : Bool) (size : ℕ) where
-  pub made-zero : size ≡ 0 → made c num more size ≡ made-variants.Refused
+module _ (strict : Bool) (num : ℕ) (more : Bool) (size : ℕ) where
+  pub made-zero : size ≡ 0 → made strict num more size ≡ made-variants.Refused
   unfolding made
   made-zero h = rw (eq-eqb size 0 h)
 
-  pub made-large : (size ≡ 0 → ⊥) → 7 < exponentOf size → made c num more size ≡ made-variants.Refused
+  pub made-large : (size ≡ 0 → ⊥) → 7 < exponentOf size → made strict num more size ≡ made-variants.Refused
   unfolding made
   made-large z h = rw (ne-eqb size 0 z, lt-ltb 7 (exponentOf size) h)
 
-  pub made-far : (size ≡ 0 → ⊥) → exponentOf size ≤ 7 → numLimit (c .strict) < num → made c num more size ≡ made-variants.Refused
+  pub made-far : (size ≡ 0 → ⊥) → exponentOf size ≤ 7 → numLimit strict < num → made strict num more size ≡ made-variants.Refused
   unfolding made
-  made-far z h n = rw (ne-eqb size 0 z, le-ltb 7 (exponentOf size) h, lt-ltb (numLimit (c .strict)) num n)
+  made-far z h n = rw (ne-eqb size 0 z, le-ltb 7 (exponentOf size) h, lt-ltb (numLimit strict) num n)
 
-  pub made-well : (size ≡ 0 → ⊥) → (e : ℕ) → e ≡ exponentOf size → e ≤ 7 → num ≤ numLimit (c .strict)
-      → made c num more size ≡ made-variants.Value (record { num = num; more = more; «size_exponent» = e })
+  pub made-well : (size ≡ 0 → ⊥) → (e : ℕ) → e ≡ exponentOf size → e ≤ 7 → num ≤ numLimit strict
+      → made strict num more size ≡ made-variants.Value (record { num = num; more = more; «size_exponent» = e })
   unfolding made
-  made-well z e q h n = rw (q, ne-eqb size 0 z, le-ltb 7 (exponentOf size) (rw q at h), le-ltb (numLimit (c .strict)) num n)
+  made-well z e q h n = rw (q, ne-eqb size 0 z, le-ltb 7 (exponentOf size) (rw q at h), le-ltb (numLimit strict) num n)

@@ -1,8 +1,7 @@
--- Document 01, "Block value": what make and size come to, and where a block starts. Of the configuration only the mode counts.
+-- Document 01, "Block value": what make and size come to, and where a block starts. Make takes the mode.
 use Prim.Native.Nat.{ℕ, zero, suc, _+_, _-_, _*_, _%_, _^_}
 use mathlib.Core.Bool.{Bool, cond}
 use lib.Dec.{leb, ltb, eqb}
-use Rattle.config.specs.declared.Config.{Config}
 use Rattle.config.specs.Mode.{numLimit}
 use Rattle.block_value.specs.declared.BlockValue.{BlockValue}
 use Rattle.block_value.specs.declared.Made.{Made}
@@ -18,11 +17,11 @@ abbrev pub exponentOf : ℕ → ℕ
 exponentOf size = largestPower 63 size - 4
 
 -- "Size 0 is refused; .. an exponent above 7 or a num above 65,535 is refused", or above the limit of the mode (document 02).
-unfoldable pub made : Config → ℕ → Bool → ℕ → Made
-made c num more size =
+unfoldable pub made : Bool → ℕ → Bool → ℕ → Made
+made strict num more size =
     cond (eqb size 0) made-variants.Refused
     (cond (ltb 7 (exponentOf size)) made-variants.Refused
-    (cond (ltb (numLimit (c .strict)) num) made-variants.Refused
+    (cond (ltb (numLimit strict) num) made-variants.Refused
     (made-variants.Value (record { num = num; more = more; «size_exponent» = exponentOf size }))))
 
 -- "Its size is 2 to the power exponent + 4." An exponent is three bits: of a larger byte only those count.

@@ -1,5 +1,4 @@
 // The block value of a Block1 or Block2 option: make, size, start. Its bytes are in `block_option`.
-use config::Config;
 ghost use mathlib.Core.Path.{_≡_};
 ghost use Prim.Native.Nat.{_*_, _^_, _<_, _≤_};
 ghost use Rattle.block_value.specs.Value.{largestPower, made, blockSize, blockStart};
@@ -32,8 +31,8 @@ fn largest_power_of_2_not_in_excess(target: usize) -> usize
 }
 
 // Makes a block value, of a num up to the mode's limit.
-pub fn make(config: Config, num: usize, more: bool, size: usize) -> Made
-    ensures { λ r. ⌜ r ≡ made config num more size ⌝ }
+pub fn make(strict: bool, num: usize, more: bool, size: usize) -> Made
+    ensures { λ r. ⌜ r ≡ made strict num more size ⌝ }
 {
     if size == 0 {
         return Made::Refused;
@@ -42,7 +41,7 @@ pub fn make(config: Config, num: usize, more: bool, size: usize) -> Made
     if 11 < exponent {
         return Made::Refused;
     }
-    if config::num_limit(config) < num {
+    if config::num_limit(strict) < num {
         return Made::Refused;
     }
     if exponent < 4 {

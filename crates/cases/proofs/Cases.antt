@@ -34,14 +34,17 @@ strict-cases = (refl, (refl, (refl, (refl, (refl, (refl, (refl, (refl, (refl, (r
 
 pub edge-cases : AllSay edgeCases
 unfolding calls
-edge-cases = (refl, (refl, (refl, (refl, (refl, (refl, (refl, (refl, (refl, (refl, (refl, (refl, (refl, (refl, (refl, (refl, (refl, (refl, tt))))))))))))))))))
+edge-cases =
+    halves 10 edgeCases
+    (refl, (refl, (refl, (refl, (refl, (refl, (refl, (refl, (refl, (refl, tt))))))))))
+    (refl, (refl, (refl, (refl, (refl, (refl, (refl, (refl, (refl, (refl, tt))))))))))
 
 pub mode-cases : AllSay modeCases
 unfolding steps
 mode-cases =
-    halves 10 modeCases
-    (refl, (refl, (refl, (refl, (refl, (refl, (refl, (refl, (refl, (refl, tt))))))))))
-    (refl, (refl, (refl, (refl, (refl, (refl, (refl, (refl, (refl, tt)))))))))
+    halves 11 modeCases
+    (refl, (refl, (refl, (refl, (refl, (refl, (refl, (refl, (refl, (refl, (refl, tt)))))))))))
+    (refl, (refl, (refl, (refl, (refl, (refl, (refl, (refl, (refl, (refl, (refl, tt)))))))))))
 
 pub held-cases : AllSay heldCases
 unfolding calls

@@ -22,7 +22,7 @@ use Rattle.judge.specs.Limits as judge
 use Rattle.call.specs.Call as h
 
 unfoldable pub values : Unit {0}
-unfolding mode.optionBytes mode.numLimit mode.nums value.largestPower value.made value.sizeOf uint.uint uint.shortest option.readOf negotiation.requestBlock negotiation.negotiated negotiation.within negotiation.replyAt chunk.chunkOf
+unfolding mode.byteLimit mode.numLimit mode.nums value.largestPower value.made value.sizeOf uint.uint uint.shortest option.readOf negotiation.requestBlock negotiation.negotiated negotiation.within negotiation.replyAt chunk.chunkOf
 values = tt
 
 unfoldable pub memories : Unit {0}

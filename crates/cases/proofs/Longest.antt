@@ -11,7 +11,7 @@ use lib.Pow.{pow-mono}
 use borrow.Author.Tests.{leb-true, le-leb, eq-eqb}
 use Rattle.pieces.proofs.Tests.{ands}
 use Rattle.config.specs.declared.Config.{Config}
-use Rattle.config.specs.Mode.{optionBytes, nums}
+use Rattle.config.specs.Mode.{byteLimit, nums}
 use Rattle.block_value.specs.Value.{sizeOf}
 use Rattle.block_value.specs.declared.BlockValue.{BlockValue}
 use Rattle.block_value.proofs.Laws.{size-most}
@@ -34,11 +34,11 @@ use Rattle.cases.proofs.Shams.{fresh-free, fresh-nothing}
 -- ---- what is written is read: it is bytes, and reads as the value
 
 abbrev Kept : Config → BlockValue → Type 0
-Kept c b = Bytes (written c b) × (requestBlock c (some (written c b)) ≡ Given b)
+Kept c b = Bytes (written (c .strict) b) × (requestBlock c (some (written (c .strict) b)) ≡ Given b)
 
 kept : (c : Config) (b : BlockValue) → b .num < nums (c .strict) → b .«size_exponent» ≤ 7 → Kept c b
 unfolding requestBlock
-kept c b few known = let w = as-the-rfc (c .strict) .write c refl b (omega arith) known in (w .0 .bytes, ap counted (w .3))
+kept c b few known = let w = as-the-rfc (c .strict) .write b (omega arith) known in (w .0 .bytes, ap counted (w .3))
 
 -- ---- the client's blocks
 
@@ -58,7 +58,7 @@ marked (suc left) = true
 module _ (c : Config) (x : ℕ) where
   -- block j, which `left` others follow, and those
   abbrev fullBlock : ℕ → ℕ → Sent
-  fullBlock j left = sent 0 (written c (block j (marked left) x)) (replicate (sizeOf x) 65)
+  fullBlock j left = sent 0 (written (c .strict) (block j (marked left) x)) (replicate (sizeOf x) 65)
 
   abbrev following : ℕ → ℕ → List Sent
   following j zero = []
@@ -134,7 +134,7 @@ longest c x zero ok known least few room fits = absurd (omega arith)
 longest c x (suc left) ok known least few room fits = push c x known ok left few room fits
 
 pub longest-of-all : LongestOfAll
-unfolding configOk nums optionBytes sizeOf
+unfolding configOk nums byteLimit sizeOf
 longest-of-all =
     record {
       strict16 = longest (largest true) 0 _ refl (omega arith) (omega arith) (omega arith) (omega arith) (omega arith);

@@ -49,7 +49,7 @@ fresh-nothing c w time k fresh plain i b h y = rw (fresh-entry w fresh i b)
 -- an option of at most two bytes is read in either mode
 reads : (c : Config) (option : List ℕ) → length option ≤ 2 → requestBlock c (some option) ≡ Given (unpacked (uint option))
 unfolding values
-reads c option short = ap counted (read-few c option (omega (arith, bytes-least (c .strict))))
+reads c option short = ap counted (read-few (c .strict) option (omega (arith, bytes-least (c .strict))))
 
 -- a block alone, and two blocks, of at most 16 bytes
 module _ (c : Config) (room : 48 ≤ c .limit) where

@@ -80,24 +80,24 @@ afterFirst = step false old (replicate 64 1) (0x08 ∷ []) (replicate 16 2)
 abbrev pub afterLast : Left
 afterLast = step false (afterFirst .state) (afterFirst .piece) (0x10 ∷ []) (replicate 16 3)
 
--- Cases 1 to 7 under this configuration, in the mode that `strict` says; case 3 in each mode.
+-- Cases 1 to 7 in the mode that `strict` says, under this configuration where it counts; case 3 in each mode.
 abbrev pub cases : Bool → List Row
 cases strict =
     -- 1. Make size 15: exponent 0. Size 32: 1. Size 0: refused.
-    makes (made (config strict) 0 false 15) (made.Value (block 0 false 0))
-    ∷ makes (made (config strict) 0 false 32) (made.Value (block 0 false 1))
-    ∷ makes (made (config strict) 0 false 0) made.Refused
+    makes (made strict 0 false 15) (made.Value (block 0 false 0))
+    ∷ makes (made strict 0 false 32) (made.Value (block 0 false 1))
+    ∷ makes (made strict 0 false 0) made.Refused
     -- 2. Size 4095: exponent 7. Size 4096: refused.
-    ∷ makes (made (config strict) 0 false 4095) (made.Value (block 0 false 7))
-    ∷ makes (made (config strict) 0 false 4096) made.Refused
+    ∷ makes (made strict 0 false 4095) (made.Value (block 0 false 7))
+    ∷ makes (made strict 0 false 4096) made.Refused
     -- 3. Num 65,535: made. 65,536: refused. So in plain mode; in strict mode (document 02) 1,048,575 is made, and 1,048,576 refused.
-    ∷ makes (made (config false) 65535 false 16) (made.Value (block 65535 false 0))
-    ∷ makes (made (config false) 65536 false 16) made.Refused
-    ∷ makes (made (config true) 1048575 false 16) (made.Value (block 1048575 false 0))
-    ∷ makes (made (config true) 1048576 false 16) made.Refused
+    ∷ makes (made false 65535 false 16) (made.Value (block 65535 false 0))
+    ∷ makes (made false 65536 false 16) made.Refused
+    ∷ makes (made true 1048575 false 16) (made.Value (block 1048575 false 0))
+    ∷ makes (made true 1048576 false 16) made.Refused
     -- 4. Byte 0x08: num 0, more, size 16. Empty: num 0, not more, size 16.
-    ∷ reads (readOf (config strict) (0x08 ∷ [])) (read.Value (block 0 true 0))
-    ∷ reads (readOf (config strict) []) (read.Value (block 0 false 0))
+    ∷ reads (readOf strict (0x08 ∷ [])) (read.Value (block 0 true 0))
+    ∷ reads (readOf strict []) (read.Value (block 0 false 0))
     ∷ number (sizeOf 0) 16
     -- 5. T 1152, bare 116, no block: p 1023 none; p 1024 gives 0, more, 1024.
     ∷ negotiates (negotiated (config strict) Absent 116 1023) reply.NoBlock

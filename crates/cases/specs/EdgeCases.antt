@@ -16,8 +16,8 @@ use Rattle.cases.specs.Cases.{Row, number, splices, spliceOfBlock}
 abbrev pub told : Bool → ℕ
 told b = cond b 1 0
 
-abbrev pub configured : ℕ → ℕ → ℕ → ℕ → Config
-configured limit lifetime upload response = record { strict = false; limit = limit; lifetime = lifetime; upload = upload; response = response }
+abbrev pub configured : Bool → ℕ → ℕ → ℕ → ℕ → Config
+configured strict limit lifetime upload response = record { strict = strict; limit = limit; lifetime = lifetime; upload = upload; response = response }
 
 abbrev pub edgeCases : List Row
 edgeCases =
@@ -33,14 +33,17 @@ edgeCases =
     ∷ number (told (keyOk (replicate 64 1))) 1
     ∷ number (told (keyOk (replicate 65 1))) 0
     -- The least configuration and the largest; then one number off at a time.
-    ∷ number (told (configOk (configured 1 1 16 16))) 1
-    ∷ number (told (configOk (configured 65535 4294967295 16777216 65536))) 1
-    ∷ number (told (configOk (configured 0 1 16 16))) 0
-    ∷ number (told (configOk (configured 1 0 16 16))) 0
-    ∷ number (told (configOk (configured 1 1 15 16))) 0
-    ∷ number (told (configOk (configured 1 1 16 15))) 0
-    ∷ number (told (configOk (configured 65536 4294967295 16777216 65536))) 0
-    ∷ number (told (configOk (configured 65535 4294967296 16777216 65536))) 0
-    ∷ number (told (configOk (configured 65535 4294967295 16777217 65536))) 0
-    ∷ number (told (configOk (configured 65535 4294967295 16777216 65537))) 0
+    ∷ number (told (configOk (configured false 1 1 16 16))) 1
+    ∷ number (told (configOk (configured false 65535 4294967295 16777216 65536))) 1
+    ∷ number (told (configOk (configured false 0 1 16 16))) 0
+    ∷ number (told (configOk (configured false 1 0 16 16))) 0
+    ∷ number (told (configOk (configured false 1 1 15 16))) 0
+    ∷ number (told (configOk (configured false 1 1 16 15))) 0
+    ∷ number (told (configOk (configured false 65536 4294967295 16777216 65536))) 0
+    ∷ number (told (configOk (configured false 65535 4294967296 16777216 65536))) 0
+    ∷ number (told (configOk (configured false 65535 4294967295 16777217 65536))) 0
+    ∷ number (told (configOk (configured false 65535 4294967295 16777216 65537))) 0
+    -- U's largest is the same in strict mode.
+    ∷ number (told (configOk (configured true 65535 4294967295 16777216 65536))) 1
+    ∷ number (told (configOk (configured true 65535 4294967295 16777217 65536))) 0
     ∷ []

@@ -1,7 +1,7 @@
-// The configuration, at the bottom: whatever reads, makes, writes or negotiates a block value takes it; and the numbers that are a mode's.
+// The configuration, at the bottom, and the numbers that are a mode's.
 ghost use mathlib.Core.Path.{_≡_};
 ghost use Prim.Native.Nat.{_^_, _<_, _≤_};
-ghost use Rattle.config.specs.Mode.{optionBytes, numLimit};
+ghost use Rattle.config.specs.Mode.{byteLimit, numLimit, nums};
 
 // BlockHandlerConfig in the Rust, with the mode and the sizes of the pieces.
 #[repr(C)]
@@ -35,29 +35,42 @@ pub fn default_config(strict: bool, upload: usize, response: usize) -> Config
     }
 }
 
-// The numbers that are a mode's: the most bytes of a Block option that is read, and the largest num that is made.
-const PLAIN_OPTION_BYTES: usize = 2;
+// The numbers that are a mode's: the most bytes of a Block option that is read, the largest num that is made, and how many nums an option can hold.
+const PLAIN_BYTE_LIMIT: usize = 2;
 
-const STRICT_OPTION_BYTES: usize = 3;
+const STRICT_BYTE_LIMIT: usize = 3;
 
 const PLAIN_NUM_LIMIT: usize = 65535;
 
 const STRICT_NUM_LIMIT: usize = 1048575;
 
-pub fn option_bytes(config: Config) -> usize
-    ensures { λ r. ⌜ (r ≡ optionBytes (config .strict)) × (r ≤ 3) ⌝ }
+const PLAIN_NUMS: u32 = 4096;
+
+const STRICT_NUMS: u32 = 1048576;
+
+pub fn byte_limit(strict: bool) -> usize
+    ensures { λ r. ⌜ (r ≡ byteLimit strict) × (r ≤ 3) ⌝ }
 {
-    if config.strict {
-        return STRICT_OPTION_BYTES;
+    if strict {
+        return STRICT_BYTE_LIMIT;
     }
-    PLAIN_OPTION_BYTES
+    PLAIN_BYTE_LIMIT
 }
 
-pub fn num_limit(config: Config) -> usize
-    ensures { λ r. ⌜ (r ≡ numLimit (config .strict)) × (r < 2 ^ 20) ⌝ }
+pub fn num_limit(strict: bool) -> usize
+    ensures { λ r. ⌜ (r ≡ numLimit strict) × (r < 2 ^ 20) ⌝ }
 {
-    if config.strict {
+    if strict {
         return STRICT_NUM_LIMIT;
     }
     PLAIN_NUM_LIMIT
+}
+
+pub fn nums(strict: bool) -> u32
+    ensures { λ r. ⌜ (r ≡ nums strict) × (4096 ≤ r) × (r ≤ 2 ^ 20) ⌝ }
+{
+    if strict {
+        return STRICT_NUMS;
+    }
+    PLAIN_NUMS
 }

@@ -16,7 +16,7 @@ ghost use Rattle.block_option.specs.Option.{readOf, written, inThree};
 ghost use Rattle.block_table.specs.Table.{freshTable};
 ghost use Rattle.call.specs.Contract.{world, requestCall, responseCall};
 ghost use Rattle.replies.specs.Found.{foundIn, bodyIn, servedHeadIn, chunkIn, sentIn};
-ghost use Rattle.handler_c.specs.Options.{inMode, blockRead};
+ghost use Rattle.handler_c.specs.Options.{blockRead};
 ghost use Rattle.handler_c.specs.Contract.{Replies};
 
 #[no_mangle]
@@ -45,19 +45,12 @@ pub extern "C" fn block_handler_bytes_held(table: &Table) -> u64
     table.held
 }
 
-// For an option with no configuration: of one, only the mode counts in what is read and written.
-fn in_mode(strict: bool) -> Config
-    ensures { λ r. ⌜ r ≡ inMode strict ⌝ }
-{
-    config::default_config(strict, 0, 0)
-}
-
 // An option's bytes as a block value; one that cannot be read counts as absent.
 #[no_mangle]
 pub extern "C" fn block_handler_read(strict: bool, option: &[u8]) -> Recorded
-    ensures { λ r. ⌜ r ≡ blockRead (readOf (inMode strict) (now (option .entry))) ⌝ }
+    ensures { λ r. ⌜ r ≡ blockRead (readOf strict (now (option .entry))) ⌝ }
 {
-    let Reading::Value(block) = block_option::read(in_mode(strict), option) else {
+    let Reading::Value(block) = block_option::read(strict, option) else {
         return state::recording_of(MaybeBlock::Absent);
     };
     state::recording_of(MaybeBlock::Given(block))
@@ -65,14 +58,14 @@ pub extern "C" fn block_handler_read(strict: bool, option: &[u8]) -> Recorded
 
 #[no_mangle]
 pub extern "C" fn block_handler_write(strict: bool, num: u32, more: bool, exponent: u8) -> Written
-    ensures { λ r. ⌜ r ≡ inThree (written (inMode strict) (record { num = num; more = more; «size_exponent» = exponent })) ⌝ }
+    ensures { λ r. ⌜ r ≡ inThree (written strict (record { num = num; more = more; «size_exponent» = exponent })) ⌝ }
 {
     let block = BlockValue {
         num,
         more,
         size_exponent: exponent,
     };
-    block_option::write(in_mode(strict), block)
+    block_option::write(strict, block)
 }
 
 // The body that the application sees, of a payload and an upload memory of these lengths.

@@ -7,7 +7,7 @@ use Rattle.config.specs.declared.Config.{Config}
 abbrev pub between : ℕ → ℕ → ℕ → Bool
 between least n most = leb least n && leb n most
 
--- "U and V are 16 to 65,536", "Message limit T is 1 to 65,535", "Lifetime is 1 to 4,294,967,295 ms"; and "the limit of U rises to 16,777,216 in both modes" (document 02).
+-- V is "16 to 65,536", "Message limit T is 1 to 65,535", "Lifetime is 1 to 4,294,967,295 ms"; U is from 16 on, and "the limit of U rises to 16,777,216 in both modes" (document 02).
 unfoldable pub configOk : Config → Bool
 configOk c =
     between 1 (c .limit) 65535 && between 1 (c .lifetime) 4294967295 && between 16 (c .upload) 16777216 && between 16 (c .response) 65536

@@ -21,7 +21,7 @@ pub asks-none : (c : Config) (given : Bool) (bytes : List ℕ) → given ≡ fal
 unfolding requestBlock
 asks-none c given bytes e = rw e
 
-pub asks-as-read : (c : Config) (given : Bool) (bytes : List ℕ) (r s : Reading) → given ≡ true → r ≡ readOf c bytes → r ≡ s → requestBlock c (optionOf given bytes) ≡ counted s
+pub asks-as-read : (c : Config) (given : Bool) (bytes : List ℕ) (r s : Reading) → given ≡ true → r ≡ readOf (c .strict) bytes → r ≡ s → requestBlock c (optionOf given bytes) ≡ counted s
 unfolding requestBlock
 asks-as-read c given bytes r s e f h = rw (e, ← f, h)
 
@@ -31,7 +31,7 @@ pub reply-none : (c : Config) (offset g p : ℕ) → g ≡ 0 → replyAt c offse
 unfolding replyAt
 reply-none c offset g p h = rw (eq-eqb g 0 h)
 
-pub reply-made : (c : Config) (offset g p : ℕ) → (g ≡ 0 → ⊥) → replyAt c offset g p ≡ replyOf (made c (offset / g) (ltb (offset + g) p) g)
+pub reply-made : (c : Config) (offset g p : ℕ) → (g ≡ 0 → ⊥) → replyAt c offset g p ≡ replyOf (made (c .strict) (offset / g) (ltb (offset + g) p) g)
 unfolding replyAt
 reply-made c offset g p h = rw (ne-eqb g 0 h)
 
@@ -49,7 +49,7 @@ module _ (c : Config) (b : MaybeBlock) (p m : ℕ) where
   unfolding within
   absent-fits e h = rw (e, lt-ltb p m h)
 
-  pub absent-large : b ≡ Absent → m ≤ p → within c b p m ≡ replyOf (made c 0 true m)
+  pub absent-large : b ≡ Absent → m ≤ p → within c b p m ≡ replyOf (made (c .strict) 0 true m)
   unfolding within
   absent-large e h = rw (e, le-ltb p m h)
 

@@ -27,7 +27,7 @@ counted Unreadable = Absent
 
 unfoldable pub requestBlock : Config → Option (List ℕ) → MaybeBlock
 requestBlock c none = Absent
-requestBlock c (some bytes) = counted (readOf c bytes)
+requestBlock c (some bytes) = counted (readOf (c .strict) bytes)
 
 -- "A make that is refused is refusal 5."
 abbrev pub replyOf : Made → Negotiated
@@ -36,11 +36,11 @@ replyOf made-variants.Refused = Refused 5
 
 -- "If g = 0, refusal 5 .. Else make(floor(ks/g), ks + g < p, g)", at offset = ks: g is used unrounded.
 unfoldable pub replyAt : Config → ℕ → ℕ → ℕ → Negotiated
-replyAt c offset g p = cond (eqb g 0) (Refused 5) (replyOf (made c (offset / g) (ltb (offset + g) p) g))
+replyAt c offset g p = cond (eqb g 0) (Refused 5) (replyOf (made (c .strict) (offset / g) (ltb (offset + g) p) g))
 
 -- "None: p < m gives no block; else make(0, more, m). Given num k, size s: g = min(s, m)."
 unfoldable pub within : Config → MaybeBlock → ℕ → ℕ → Negotiated
-within c Absent p m = cond (ltb p m) NoBlock (replyOf (made c 0 true m))
+within c Absent p m = cond (ltb p m) NoBlock (replyOf (made (c .strict) 0 true m))
 within c (Given b) p m = replyAt c (blockStart b) (min (blockSize b) m) p
 
 -- "If bare + 12 > T: refusal 4. Let m = T - bare - 12." T is the configuration's limit; besides it, the mode counts, where a value is made.

@@ -28,7 +28,7 @@ pub fn request_block(config: Config, given: bool, option: &[u8]) -> MaybeBlock
     ensures { λ r. ⌜ r ≡ requestBlock config (optionOf given (now (option .entry))) ⌝ }
 {
     if given {
-        let Reading::Value(block) = block_option::read(config, option) else {
+        let Reading::Value(block) = block_option::read(config.strict, option) else {
             return MaybeBlock::Absent;
         };
         return MaybeBlock::Given(block);
@@ -54,7 +54,7 @@ fn reply_at(config: Config, offset: usize, size: usize, total_payload_size: usiz
         return Negotiated::Refused(5);
     }
     let more = offset + size < total_payload_size;
-    reply_of(block_value::make(config, offset / size, more, size))
+    reply_of(block_value::make(config.strict, offset / size, more, size))
 }
 
 fn reply_to(
@@ -95,7 +95,7 @@ pub fn negotiate_block_size_if_necessary(
             if total_payload_size < max_block_size {
                 return Negotiated::NoBlock;
             }
-            reply_of(block_value::make(config, 0, true, max_block_size))
+            reply_of(block_value::make(config.strict, 0, true, max_block_size))
         }
         MaybeBlock::Given(block) => reply_to(config, block, total_payload_size, max_block_size),
     }

@@ -29,7 +29,7 @@ use Rattle.one_call.proofs.Outcomes.{Outcome, refused, past, tooLarge, 
 use Rattle.one_call.proofs.Outcomes.{Storing, as-before, stores, answered, answered-response}
 use Rattle.one_call.proofs.Touch.{refused-touches, response-touches}
 
-absent-not : {A : Type 0} (b : BlockValue) → Absent ≡ Given b → A
+pub absent-not : {A : Type 0} (b : BlockValue) → Absent ≡ Given b → A
 absent-not b e = let z : _≡_ {A = ℕ} 0 1 = cc in absurd (omega arith)
 
 -- ---- a request's Block1 value

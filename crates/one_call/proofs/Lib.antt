@@ -6,3 +6,4 @@ pub mod Agreed
 pub mod Refusals
 pub mod Strict
 pub mod Starts
+pub mod Written

@@ -7,7 +7,6 @@ use native.Mathlib.Omega.{arith}
 use lib.Dec.{ltb, eqb}
 use borrow.Author.Tests.{ltb-false}
 use Rattle.pieces.proofs.Tests.{by-cases}
-use Rattle.config.specs.declared.Config.{Config}
 use Rattle.config.specs.Mode.{numLimit}
 use Rattle.config.proofs.Mode.{limit-most, nums-most}
 use Rattle.block_value.specs.Value.{exponentOf, made, blockStart}
@@ -25,21 +24,21 @@ use Rattle.one_call.specs.Starts.{StartsLow, Starts}
 low : (b : BlockValue) → b .num ≤ 1048575 → StartsLow b
 low b h =
     let most : blockStart b ≤ 1048575 * 2048 = mul-le-mul h (size-most (b .«size_exponent»)) in
-    (most, omega arith)
+    (most, omega (arith, size-most (b .«size_exponent»)))
 
 -- what is made has a num within its mode's limit
-made-num : (c : Config) (num : ℕ) (more : Bool) (size : ℕ) (b : BlockValue) → made c num more size ≡ make.Value b → b .num ≤ numLimit (c .strict)
+made-num : (strict : Bool) (num : ℕ) (more : Bool) (size : ℕ) (b : BlockValue) → made strict num more size ≡ make.Value b → b .num ≤ numLimit strict
 unfolding made
-made-num c num more size b e =
+made-num strict num more size b e =
     by-cases (eqb size 0) (λ z. no (rw z at e))
     (λ z. by-cases (ltb 7 (exponentOf size)) (λ x. no (rw (z, x) at e))
-    (λ x. by-cases (ltb (numLimit (c .strict)) num) (λ n. no (rw (z, x, n) at e))
+    (λ x. by-cases (ltb (numLimit strict) num) (λ n. no (rw (z, x, n) at e))
     (λ n.
     let is : make.Value (record { num = num; more = more; «size_exponent» = exponentOf size }) ≡ make.Value b = rw (z, x, n) at e in
     let same : b .num ≡ num = cc in
-    rw same (ltb-false (numLimit (c .strict)) num n))))
+    rw same (ltb-false (numLimit strict) num n))))
   where
-    no : make.Refused ≡ make.Value b → b .num ≤ numLimit (c .strict)
+    no : make.Refused ≡ make.Value b → b .num ≤ numLimit strict
     no r = let z : _≡_ {A = ℕ} 0 1 = cc in absurd (omega arith)
 
 held-low : (m : MaybeBlock) (b : BlockValue) → Held 1048575 m → m ≡ Given b → StartsLow b
@@ -48,7 +47,7 @@ held-low m b h e = let k : Held 1048575 (Given b) = rw e at h in low b (k .0)
 pub starts : Starts
 starts =
     record {
-      read = λ c option b h e. low b (omega (arith, read-num c option b h e, nums-most (c .strict)));
-      made = λ c num more size b e. low b (omega (arith, made-num c num more size b e, limit-most (c .strict)));
+      read = λ strict option b h e. low b (omega (arith, read-num strict option b h e, nums-most strict));
+      made = λ strict num more size b e. low b (omega (arith, made-num strict num more size b e, limit-most strict));
       recorded = λ r b ok e. held-low (recordedBlock r) b (recorded-held r ok) e;
     }

@@ -1,24 +1,26 @@
 -- What a step comes to, a law for each branch that the proofs need, and what the mode decides in it. Here and in Outcomes.antt alone they look into the steps. Assumes
 -- nothing.
 use Prim.Native.Nat.{ℕ, _+_, _/_, _≤_, _<_}
-use mathlib.Core.Bool.{Bool, true, false, cond, false≢true, _&&_}
+use mathlib.Core.Bool.{Bool, true, false, false≢true, _&&_}
 use mathlib.Core.Path.{_≡_, refl, sym, _∙_, ap}
-use mathlib.Core.List.{List}
-use mathlib.Core.Option.{Option, none, some}
+use mathlib.Core.List.{List, [], _∷_}
 use native.Mathlib.Omega.{arith}
-use lib.Dec.{ltb}
+use lib.Dec.{ltb, eqb}
 use lib.ListN.{length}
-use borrow.Author.Tests.{ltb-true, ltb-false, le-ltb}
+use borrow.Author.Tests.{ltb-true, ltb-false, lt-ltb, le-ltb, eqb-false}
 use Rattle.pieces.proofs.Tests.{by-cases}
-use Rattle.config.specs.Mode.{numLimit}
-use Rattle.config.proofs.Mode.{bytes-least, bytes-most, limit-least}
+use Rattle.config.specs.Mode.{byteLimit, numLimit}
+use Rattle.config.proofs.Mode.{bytes-least, bytes-most, limit-least, limit-most}
 use Rattle.splicing.specs.Splice.{spliceOf, pieceAfter}
 use Rattle.splicing.specs.declared.Splice.{Splice}
 use Rattle.splicing.specs.declared.Splice.the-variants as splice
 use Rattle.block_value.specs.Value.{made, blockSize, blockStart}
+use Rattle.block_option.specs.Uint.{uint}
+use Rattle.block_option.specs.Option.{unpacked, readOf}
+use Rattle.block_option.specs.declared.Reading.the-variants.{Value}
 use Rattle.block_option.proofs.Laws.{read-few, read-long}
 use Rattle.block_value.specs.declared.BlockValue.{BlockValue}
-use Rattle.negotiation.specs.Negotiation.{requestBlock, negotiated, within, replyAt}
+use Rattle.negotiation.specs.Negotiation.{counted, requestBlock, negotiated, within, replyAt}
 use Rattle.negotiation.specs.declared.MaybeBlock.{MaybeBlock}
 use Rattle.negotiation.specs.declared.MaybeBlock.the-variants.{Absent, Given}
 use Rattle.negotiation.specs.declared.Negotiated.{Negotiated}
@@ -27,7 +29,7 @@ use Rattle.chunks.specs.declared.Chunk.{Chunk}
 use Rattle.chunks.specs.declared.Chunk.the-variants as chunk
 use Rattle.config.specs.declared.Config.{Config}
 use Rattle.block_state.specs.declared.BlockState.{BlockState}
-use Rattle.block_state.specs.declared.Answer.the-variants.{Continue, Handed, Plain, Refused}
+use Rattle.block_state.specs.declared.Answer.the-variants.{Continue, Handed, Refused}
 use Rattle.block_state.specs.Message.{Request, Response}
 use Rattle.block_state.specs.State.{assembly, recordedBlock, withAssembled, withRecorded}
 use Rattle.block_state.specs.Step.{Left, left, bytesFrom}
@@ -41,37 +43,66 @@ use Rattle.request_step.proofs.Steps as steps
 use Rattle.response_step.specs.Step.{chunked, onReply, stepResponse}
 use Rattle.pairing.specs.Pairing.{roomOf, granted}
 use Rattle.one_call.specs.Agreed.{requestAgrees}
-use Rattle.one_call.specs.Strict.{plainly, ReadAlike, MadeAlike}
+use Rattle.one_call.specs.Strict.{plainly, SaysTheSame, OnlyStrictMakes, ReadAlike}
 use Rattle.one_call.proofs.Checks.{meets-all}
 
 -- ---- what both modes read and negotiate alike
 
-read-plainly : (c : Config) (o : Option (List ℕ)) → ReadAlike o → requestBlock c o ≡ requestBlock (plainly c) o
-unfolding requestBlock
-read-plainly c none h = refl
-read-plainly c (some bytes) h =
+reads-alike : (strict : Bool) (bytes : List ℕ) → (length bytes ≡ 3 → ⊥) → readOf false bytes ≡ readOf strict bytes
+reads-alike strict bytes other =
     by-cases (ltb 2 (length bytes))
     (λ y.
     let four : 3 < length bytes = past (ltb-true 2 (length bytes) y) in
-    rw (read-long c bytes (omega (arith, bytes-most (c .strict))), read-long (plainly c) bytes (omega (arith, bytes-most false))))
+    rw (read-long false bytes (omega (arith, bytes-most false)), read-long strict bytes (omega (arith, bytes-most strict))))
     (λ n.
     let two : length bytes ≤ 2 = ltb-false 2 (length bytes) n in
-    rw (read-few c bytes (omega (arith, bytes-least (c .strict))), read-few (plainly c) bytes (omega (arith, bytes-least false))))
+    rw (read-few false bytes (omega (arith, bytes-least false)), read-few strict bytes (omega (arith, bytes-least strict))))
   where
     past : 2 < length bytes → 3 < length bytes
-    past l = omega (arith, h)
+    past l = omega (arith, other)
 
-made-plainly : (c : Config) (num : ℕ) (more : Bool) (size : ℕ) → num ≤ 65535 → made c num more size ≡ made (plainly c) num more size
+zero-in-front : (a b : ℕ) → readOf false (a ∷ b ∷ []) ≡ readOf true (0 ∷ a ∷ b ∷ [])
+unfolding readOf byteLimit uint
+zero-in-front a b = ap (λ (n : ℕ). Value (unpacked n)) (omega arith)
+
+pub read-alike : ReadAlike
+unfolding requestBlock
+read-alike =
+    record {
+      absent = λ c. refl;
+      given = λ c bytes other. ap counted (reads-alike (c .strict) bytes other);
+      shorter = λ c a b strict. rw strict (ap counted (zero-in-front a b));
+    }
+
+-- both make a num within plain mode's limit, and neither one above strict mode's
+made-near : (strict : Bool) (num : ℕ) (more : Bool) (size : ℕ) → num ≤ 65535 → made strict num more size ≡ made false num more size
 unfolding made
-made-plainly c num more size h =
-    rw (le-ltb (numLimit (c .strict)) num (omega (arith, limit-least (c .strict))), le-ltb (numLimit false) num (omega (arith, limit-least false)))
+made-near strict num more size h =
+    rw (le-ltb (numLimit strict) num (omega (arith, limit-least strict)), le-ltb (numLimit false) num (omega (arith, limit-least false)))
 
-agreed-plainly : (c : Config) (b : MaybeBlock) (bare p : ℕ) → MadeAlike c b bare → negotiated c b bare p ≡ negotiated (plainly c) b bare p
-unfolding negotiated within replyAt
-agreed-plainly c Absent bare p h = rw (made-plainly c 0 true (roomOf c bare) h)
-agreed-plainly c (Given b) bare p h =
-    let g : ℕ = granted (Given b) (roomOf c bare) in
-    rw (made-plainly c (blockStart b / g) (ltb (blockStart b + g) p) g h)
+made-beyond : (strict : Bool) (num : ℕ) (more : Bool) (size : ℕ) → 1048575 < num → made strict num more size ≡ made false num more size
+unfolding made
+made-beyond strict num more size h =
+    rw (lt-ltb (numLimit strict) num (omega (arith, limit-most strict)), lt-ltb (numLimit false) num (omega (arith, limit-most false)))
+
+agreed-plainly : (c : Config) (b : MaybeBlock) (bare p : ℕ) → (OnlyStrictMakes c b bare → ⊥) → negotiated c b bare p ≡ negotiated (plainly c) b bare p
+unfolding negotiated within replyAt numLimit
+agreed-plainly c Absent bare p only = rw (made-near (c .strict) 0 true (roomOf c bare) (omega arith))
+agreed-plainly c (Given b) bare p only =
+    by-cases (eqb g 0) (λ z. rw z)
+    (λ z.
+    by-cases (ltb 65535 num)
+    (λ y.
+    by-cases (ltb 1048575 num)
+    (λ far. rw (made-beyond (c .strict) num (ltb (blockStart b + g) p) g (ltb-true 1048575 num far)))
+    (λ near. absurd (only (eqb-false g 0 z, ltb-true 65535 num y, ltb-false 1048575 num near))))
+    (λ low. rw (made-near (c .strict) num (ltb (blockStart b + g) p) g (ltb-false 65535 num low))))
+  where
+    g : ℕ
+    g = granted (Given b) (roomOf c bare)
+
+    num : ℕ
+    num = blockStart b / g
 
 -- ---- a request's step
 
@@ -166,11 +197,11 @@ module _ (c : Config) (home away : ℕ) (s : BlockState) (u : List ℕ) (r : Req
   on-same (Given b) (agreed.Block reply) unchecked = given-same b reply (unchecked b refl)
 
   -- then the step is plain mode's
-  pub step-plainly : ReadAlike (r .block1) → ReadAlike (r .block2) → MadeAlike c (requestBlock c (r .block1)) (r .bare)
-      → ((b : BlockValue) → requestBlock c (r .block1) ≡ Given b → Unchecked b) → step ≡ stepRequest (plainly c) home away s u r
+  pub step-plainly : (q : Request) → SaysTheSame c r q → (OnlyStrictMakes c (requestBlock c (r .block1)) (r .bare) → ⊥)
+      → ((b : BlockValue) → requestBlock c (r .block1) ≡ Given b → Unchecked b) → step ≡ stepRequest (plainly c) home away s u q
   unfolding stepRequest
-  step-plainly one two made unchecked =
-      rw (← read-plainly c (r .block1) one, ← read-plainly c (r .block2) two, ← agreed-plainly c (requestBlock c (r .block1)) (r .bare) p made)
+  step-plainly q same made unchecked =
+      rw (same .block1, same .block2, same .bare, same .payload, ← agreed-plainly c (requestBlock c (r .block1)) (r .bare) p made)
       (on-same (requestBlock c (r .block1)) (requestAgrees c r) unchecked)
 
 -- ---- a response's step
@@ -193,8 +224,8 @@ module _ (c : Config) (s : BlockState) (d : List ℕ) (r : Response) where
   reply-same (agreed.Block b) = chunk-same _
 
   -- and so for it
-  pub response-plainly : MadeAlike c (recordedBlock (s .recorded)) (r .bare) → stepResponse c s d r ≡ stepResponse (plainly c) s d r
+  pub response-plainly : (r .own ≡ false → OnlyStrictMakes c (recordedBlock (s .recorded)) (r .bare) → ⊥) → stepResponse c s d r ≡ stepResponse (plainly c) s d r
   unfolding stepResponse
   response-plainly made =
-      rw (← agreed-plainly c (recordedBlock (s .recorded)) (r .bare) (length (r .payload)) made)
-      (ap (λ (g : Left). cond (r .own) (left s d Plain) g) (reply-same _))
+      by-cases (r .own) (λ own. rw own)
+      (λ other. rw (other, ← agreed-plainly c (recordedBlock (s .recorded)) (r .bare) (length (r .payload)) (made other)) (reply-same _))

@@ -31,11 +31,11 @@ use Rattle.request_block1.specs.Block1.{badForm, notNext}
 use Rattle.entries.specs.Entries.{entryOk}
 use Rattle.block_table.specs.Table.{tableOk}
 use Rattle.judge.specs.Limits.{configOk, memoriesOk}
-use Rattle.call.specs.Call.{World, Call, callAt, withinLimits, call}
+use Rattle.call.specs.Call.{World, Call, callAt, whatOk, withinLimits, call}
 use Rattle.pairing.proofs.Pairing.{refusal-number}
 use Rattle.one_call.specs.Agreed.{recordedFor, requestAgrees}
 use Rattle.one_call.specs.Touch.{RefusesTo}
-use Rattle.one_call.specs.Strict.{tookBlock, assembledFor, RightlyTaken, BadlyFormed, Misplaced, PassesFive, plainly, ReadAlike, MadeAlike, Fine, StrictSaysNo}
+use Rattle.one_call.specs.Strict.{tookBlock, assembledFor, RightlyTaken, BadlyFormed, Misplaced, PassesFive, plainly, SaysTheSame, saying, OnlyStrictMakes, Fine, StrictSaysNo}
 use Rattle.one_call.proofs.Checks.{and-none, bad-is, bad-as, bad-not, not-bad, passed-next, misplaced-is, misplaced-as, meets-all}
 use Rattle.one_call.proofs.Step.{step-bad, step-astray, Unchecked, step-plainly, response-plainly}
 use Rattle.one_call.proofs.Outcomes.{openedOf, TookBlock, Why, unagreed, badly, astray, unspliced, Outcome, refused, past, tooLarge, continued, onwards, serves, none, took, answered}
@@ -67,10 +67,10 @@ good-is c l r b given e7 good passed =
 exponent-read : (c : Config) (o : Option (List ℕ)) (b : BlockValue) → requestBlock c o ≡ Given b → b .«size_exponent» ≤ 7
 unfolding requestBlock
 exponent-read c no-option b e = let z : _≡_ {A = ℕ} 0 1 = cc in absurd (omega arith)
-exponent-read c (some bytes) b e = of (readOf c bytes) refl e
+exponent-read c (some bytes) b e = of (readOf (c .strict) bytes) refl e
   where
-    of : (r : Reading) → readOf c bytes ≡ r → counted r ≡ Given b → b .«size_exponent» ≤ 7
-    of (Value v) is same = let z : v ≡ b = cc in rw (← z) (read-exponent c bytes v is)
+    of : (r : Reading) → readOf (c .strict) bytes ≡ r → counted r ≡ Given b → b .«size_exponent» ≤ 7
+    of (Value v) is same = let z : v ≡ b = cc in rw (← z) (read-exponent (c .strict) bytes v is)
     of Unreadable is same = let z : _≡_ {A = ℕ} 0 1 = cc in absurd (omega arith)
 
 -- ---- a block that was taken
@@ -172,14 +172,20 @@ limits-plainly : (c : Config) (w : World) (q : Call) → withinLimits c w q ≡ 
 unfolding assembledOk cachedOk stateOk entryOk tableOk configOk memoriesOk withinLimits
 limits-plainly c w q = refl
 
-all-else : (c : Config) (w : World) (q : Call) (r : Request) → q .what ≡ request r
-    → ReadAlike (r .block1) → ReadAlike (r .block2) → MadeAlike c (requestBlock c (r .block1)) (r .bare)
-    → ((b : BlockValue) → requestBlock c (r .block1) ≡ Given b → Fine (assembledFor c w q) (length (r .payload)) b) → call c w q ≡ call (plainly c) w q
-unfolding call callAt
-all-else c w q r e one two made f =
-    rw (limits-plainly c w q, e, step-plainly c _ _ (openedOf c w q .state) _ r one two made (λ b given. unchecked c _ _ _ _ r b (f b given)))
+-- nor the options
+limits-same : (c : Config) (w : World) (q : Call) (r p : Request) → q .what ≡ request r → SaysTheSame c r p
+    → withinLimits (plainly c) w q ≡ withinLimits (plainly c) w (saying q p)
+unfolding withinLimits whatOk
+limits-same c w q r p e same = rw (e, same .bare, same .payload)
 
-of-responses : (c : Config) (w : World) (q : Call) (r : Response) → q .what ≡ response r → MadeAlike c (recordedFor c w q) (r .bare)
+all-else : (c : Config) (w : World) (q : Call) (r p : Request) → q .what ≡ request r → SaysTheSame c r p
+    → (OnlyStrictMakes c (requestBlock c (r .block1)) (r .bare) → ⊥)
+    → ((b : BlockValue) → requestBlock c (r .block1) ≡ Given b → Fine (assembledFor c w q) (length (r .payload)) b) → call c w q ≡ call (plainly c) w (saying q p)
+unfolding call callAt
+all-else c w q r p e same made f =
+    rw (limits-plainly c w q, limits-same c w q r p e same, e, step-plainly c _ _ (openedOf c w q .state) _ r p same made (λ b given. unchecked c _ _ _ _ r b (f b given)))
+
+of-responses : (c : Config) (w : World) (q : Call) (r : Response) → q .what ≡ response r → (r .own ≡ false → OnlyStrictMakes c (recordedFor c w q) (r .bare) → ⊥)
     → call c w q ≡ call (plainly c) w q
 unfolding call callAt
 of-responses c w q r e made = rw (limits-plainly c w q, e, response-plainly c (openedOf c w q .state) _ r made)

@@ -4,3 +4,4 @@ pub mod Agreed
 pub mod Strict
 pub mod Refusals
 pub mod Starts
+pub mod Written

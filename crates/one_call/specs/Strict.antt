@@ -4,8 +4,8 @@ use Prim.Native.Nat.{ℕ, _≤_, _<_}
 use mathlib.Core.Bool.{Bool, true, false}
 use mathlib.Core.Path.{_≡_}
 use mathlib.Core.Logic.{_⊎_}
-use mathlib.Core.List.{List}
-use mathlib.Core.Option.{Option, none, some}
+use mathlib.Core.List.{List, [], _∷_}
+use mathlib.Core.Option.{none, some}
 use lib.ListN.{length}
 use Rattle.block_value.specs.Value.{blockSize, blockStart}
 use Rattle.block_value.specs.declared.BlockValue.{BlockValue}
@@ -14,6 +14,7 @@ use Rattle.negotiation.specs.declared.MaybeBlock.{MaybeBlock}
 use Rattle.negotiation.specs.declared.MaybeBlock.the-variants.{Absent, Given}
 use Rattle.negotiation.specs.declared.Negotiated.the-variants.{Block}
 use Rattle.config.specs.declared.Config.{Config}
+use Rattle.config.specs.Mode.{numLimit}
 use Rattle.block_state.specs.declared.Assembled.{Assembled}
 use Rattle.block_state.specs.declared.Answer.{Answer}
 use Rattle.block_state.specs.declared.Answer.the-variants.{Continue, TooLarge, Handed, Pass, Served, Plain, Whole, First, Refused}
@@ -81,14 +82,21 @@ pub record PassesFive (c : Config) (w : World) (q : Call) (r : Request) (b : Blo
 abbrev pub plainly : Config → Config
 plainly c = record { strict = false; limit = c .limit; lifetime = c .lifetime; upload = c .upload; response = c .response }
 
--- An option that both modes read alike: not one of three bytes, which only strict mode reads (document 02).
-abbrev pub ReadAlike : Option (List ℕ) → Type 0
-ReadAlike none = Unit {0}
-ReadAlike (some bytes) = length bytes ≡ 3 → ⊥
+-- The request p says in plain mode what r says in strict mode: all is the same but the options' bytes, and those are read as the same values. (Which are: `ReadAlike`.)
+pub record SaysTheSame (c : Config) (r p : Request) : Type 0 where
+  pub bare : p .bare ≡ r .bare
+  pub payload : p .payload ≡ r .payload
+  pub block1 : requestBlock (plainly c) (p .block1) ≡ requestBlock c (r .block1)
+  pub block2 : requestBlock (plainly c) (p .block2) ≡ requestBlock c (r .block2)
 
--- A reply that both modes make alike: its num is within plain mode's limit.
-abbrev pub MadeAlike : Config → MaybeBlock → ℕ → Type 0
-MadeAlike c b bare = numFor b (granted b (roomOf c bare)) ≤ 65535
+-- The call with this request in place of its own.
+abbrev pub saying : Call → Request → Call
+saying q p = record { time = q .time; key = q .key; what = request p }
+
+-- The reply's num is one that only strict mode makes (document 02): above plain mode's limit, and not above strict mode's.
+abbrev pub OnlyStrictMakes : Config → MaybeBlock → ℕ → Type 0
+OnlyStrictMakes c b bare =
+    (granted b (roomOf c bare) ≡ 0 → ⊥) × (numLimit false < numFor b (granted b (roomOf c bare))) × (numFor b (granted b (roomOf c bare)) ≤ numLimit true)
 
 -- A block that strict mode has nothing to say of: well formed, not misplaced, and if it is block 0, over nothing assembled.
 pub record Fine (l : Assembled) (p : ℕ) (b : BlockValue) : Type 0 where
@@ -112,9 +120,17 @@ pub record StrictSaysNo (h : Handler) : Type 0 where
   -- And 9 only then, in strict mode.
   pub nineOnly : (c : Config) (w : World) (q : Call) (r : Request) → q .what ≡ request r → h c w q .answer ≡ Refused 9
       → (c .strict ≡ true) × (b : BlockValue) × (requestBlock c (r .block1) ≡ Given b) × (BadlyFormed b (length (r .payload)) → ⊥) × Misplaced (assembledFor c w q) b
-  -- "All else is as in plain mode": a request with no Block1 value or a fine one, and any response, is answered and leaves just what it does in plain mode, unless it has
-  -- an option of three bytes or a reply's num is above 65,535.
-  pub allElse : (c : Config) (w : World) (q : Call) (r : Request) → q .what ≡ request r → ReadAlike (r .block1) → ReadAlike (r .block2)
-      → MadeAlike c (requestBlock c (r .block1)) (r .bare)
-      → ((b : BlockValue) → requestBlock c (r .block1) ≡ Given b → Fine (assembledFor c w q) (length (r .payload)) b) → h c w q ≡ h (plainly c) w q
-  pub responses : (c : Config) (w : World) (q : Call) (r : Response) → q .what ≡ response r → MadeAlike c (recordedFor c w q) (r .bare) → h c w q ≡ h (plainly c) w q
+  -- "All else is as in plain mode": a request with no Block1 value or a fine one, and any response, is answered and leaves just what it does in plain mode, unless the
+  -- reply's num is one that only strict mode makes.
+  pub allElse : (c : Config) (w : World) (q : Call) (r p : Request) → q .what ≡ request r → SaysTheSame c r p
+      → (OnlyStrictMakes c (requestBlock c (r .block1)) (r .bare) → ⊥)
+      → ((b : BlockValue) → requestBlock c (r .block1) ≡ Given b → Fine (assembledFor c w q) (length (r .payload)) b) → h c w q ≡ h (plainly c) w (saying q p)
+  pub responses : (c : Config) (w : World) (q : Call) (r : Response) → q .what ≡ response r
+      → (r .own ≡ false → OnlyStrictMakes c (recordedFor c w q) (r .bare) → ⊥) → h c w q ≡ h (plainly c) w q
+
+-- Which options both modes read alike: none, and every one that has not just three bytes. And one of three bytes that starts with a zero is read in strict mode as the other
+-- two are in plain mode.
+pub record ReadAlike : Type 0 where
+  pub absent : (c : Config) → requestBlock (plainly c) none ≡ requestBlock c none
+  pub given : (c : Config) (bytes : List ℕ) → (length bytes ≡ 3 → ⊥) → requestBlock (plainly c) (some bytes) ≡ requestBlock c (some bytes)
+  pub shorter : (c : Config) (a b : ℕ) → c .strict ≡ true → requestBlock (plainly c) (some (a ∷ b ∷ [])) ≡ requestBlock c (some (0 ∷ a ∷ b ∷ []))

@@ -84,20 +84,20 @@ module _ (c : Config) (n : ℕ) (more : Bool) (g : ℕ) where
     refused : (g ≡ 0) ⊎ (4096 ≤ g) ⊎ (numLimit (c .strict) < n) → Came (Refused 5)
     block : 1 ≤ g → g < 4096 → n ≤ numLimit (c .strict) → Came (Block (record { num = n; more = more; «size_exponent» = exponentOf g }))
 
-  came : Came (replyOf (made c n more g))
+  came : Came (replyOf (made (c .strict) n more g))
   came =
       by-cases (eqb g 0)
-      (λ y. let e : g ≡ 0 = eqb-true g 0 y in rw (made-zero c n more g e) (refused (inl e)))
+      (λ y. let e : g ≡ 0 = eqb-true g 0 y in rw (made-zero (c .strict) n more g e) (refused (inl e)))
       (λ z.
       let nz : g ≡ 0 → ⊥ = λ e. zero-clash (eqb g 0) z e in
       by-cases (leb 4096 g)
-      (λ y. let b : 4096 ≤ g = leb-true 4096 g y in rw (made-large c n more g nz (large g (omega (arith, nz)) b)) (refused (inr (inl b))))
+      (λ y. let b : 4096 ≤ g = leb-true 4096 g y in rw (made-large (c .strict) n more g nz (large g (omega (arith, nz)) b)) (refused (inr (inl b))))
       (λ o.
       let b : g < 4096 = leb-false 4096 g o in
       let e7 = exponent-7 g (omega (arith, nz)) b in
       by-cases (ltb limit n)
-      (λ y. let f : limit < n = ltb-true limit n y in rw (made-far c n more g nz e7 f) (refused (inr (inr f))))
-      (λ u. let f : n ≤ limit = ltb-false limit n u in rw (made-well c n more g nz (exponentOf g) refl e7 f) (block (omega (arith, nz)) b f))))
+      (λ y. let f : limit < n = ltb-true limit n y in rw (made-far (c .strict) n more g nz e7 f) (refused (inr (inr f))))
+      (λ u. let f : n ≤ limit = ltb-false limit n u in rw (made-well (c .strict) n more g nz (exponentOf g) refl e7 f) (block (omega (arith, nz)) b f))))
     where
       limit : ℕ
       limit = numLimit (c .strict)
@@ -224,6 +224,19 @@ refusal-number c b bare p n e = of _ (out c b bare p) e
     of y (answered h k _ (refused u)) e = let z : n ≡ 5 = cc in inr z
     of y (answered h k _ (block l m o)) e = block-is-not _ n e
 
+-- a block that comes out was made: its num is within the mode's limit, and its exponent at most 7
+pub block-within : (c : Config) (b : MaybeBlock) (bare p : ℕ) (r : BlockValue) → negotiated c b bare p ≡ Block r → (r .num ≤ numLimit (c .strict)) × (r .«size_exponent» ≤ 7)
+block-within c b bare p r e = of _ (out c b bare p) e
+  where
+    of : (y : Negotiated) → Out c b bare p y → y ≡ Block r → (r .num ≤ numLimit (c .strict)) × (r .«size_exponent» ≤ 7)
+    of y (four h) e = refused-is-no-block r 4 e
+    of y (none h k) e = none-is-no-block r e
+    of y (answered h k _ (refused u)) e = refused-is-no-block r 5 e
+    of y (answered h k _ (block l m o)) e =
+        let num : numFor b (granted b (roomOf c bare)) ≡ r .num = cc in
+        let exponent : exponentOf (granted b (roomOf c bare)) ≡ r .«size_exponent» = cc in
+        (rw num at o, rw exponent at (exponent-7 (granted b (roomOf c bare)) l m))
+
 granted-room : (b : MaybeBlock) (m : ℕ) → (granted b m ≤ m) × (16 ≤ m → 16 ≤ granted b m) × (m < 16 → granted b m ≡ m)
 granted-room Absent m = (omega arith, λ h. h, λ h. refl)
 granted-room (Given b) m = (omega arith, λ h. omega (arith, size-least (b .«size_exponent»)), λ h. omega (arith, size-least (b .«size_exponent»)))
@@ -261,5 +274,5 @@ pairing =
           ∙ given-at c (Given b) p (roomOf c bare) b refl
           ∙ rw full (reply-made c (blockStart b) s p nz
           ∙ rw (mul-div-cancel (b .num) pos)
-          (ap replyOf (made-well c (b .num) _ s nz (b .«size_exponent») (sym (exponent-size (b .«size_exponent») hx)) hx hn)));
+          (ap replyOf (made-well (c .strict) (b .num) _ s nz (b .«size_exponent») (sym (exponent-size (b .«size_exponent») hx)) hx hn)));
     }

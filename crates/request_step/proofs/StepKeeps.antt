@@ -35,10 +35,10 @@ use Rattle.request_block2.proofs.Serving.{onward-keeps}
 pub read-held : (c : Config) (o : Option (List ℕ)) → OptionBytes o → Held 1048575 (requestBlock c o)
 unfolding requestBlock
 read-held c none h = tt
-read-held c (some bytes) h = of (readOf c bytes) refl
+read-held c (some bytes) h = of (readOf (c .strict) bytes) refl
   where
-    of : (r : Reading) → readOf c bytes ≡ r → Held 1048575 (counted r)
-    of (Value b) e = (omega (arith, read-num c bytes b h e, nums-most (c .strict)), read-exponent c bytes b e)
+    of : (r : Reading) → readOf (c .strict) bytes ≡ r → Held 1048575 (counted r)
+    of (Value b) e = (omega (arith, read-num (c .strict) bytes b h e, nums-most (c .strict)), read-exponent (c .strict) bytes b e)
     of Unreadable e = tt
 
 module _ (c : Config) where
