@@ -26,6 +26,7 @@ fn main() {
     println!("# Plain mode, T 1152, {KEYS} keys whose calls take turns; each repetition times both sides, first one and then the other.");
     println!("# Buffers: no memory is cleared between repetitions; the Rust allocates a vector for each upload and each chunk served.");
     println!("# The Rust's packets are cloned before the clock starts and dropped after it stops, since a call changes them.");
+    longest();
     uploads();
     serving();
     plain(KEYS);
@@ -34,6 +35,13 @@ fn main() {
     held::print();
     steps::print();
     standins::print();
+}
+
+/// Not timed: both sides hand on the same where two keys push as many blocks of 1 KiB as plain mode can number, 4 MiB each.
+fn longest() {
+    let last = 4095;
+    let mut sides = Sides::with_upload((last + 1) * KIB);
+    (0..=last).for_each(|num| sides.agree(&upload_round(num, num < last)[..2]));
 }
 
 /// Rows a and e: uploads of 64 KiB, a block of each key at a time.

@@ -27,7 +27,12 @@ pub struct Times {
 impl Sides {
     /// Plain mode, coap-lite's defaults, pieces of 64 KiB.
     pub fn new() -> Self {
-        let config = BlockHandlerConfig { mode: Mode::Plain, ..BlockHandlerConfig::default() };
+        Self::with_upload(BlockHandlerConfig::default().max_upload)
+    }
+
+    /// The same with uploads of up to so many bytes.
+    pub fn with_upload(max_upload: usize) -> Self {
+        let config = BlockHandlerConfig { mode: Mode::Plain, max_upload, ..BlockHandlerConfig::default() };
         let theirs = coap_lite::BlockHandlerConfig {
             max_total_message_size: config.max_total_message_size,
             cache_expiry_duration: config.cache_expiry_duration,
