@@ -49,7 +49,7 @@ struct block_handler_config {
  * which a client gives up or starts again; the last of two or more gets it too, though its list was handed on. In plain mode a middle block is written over itself, and the last one is the corrupt
  * list above. In either mode a late copy of a block of one list can be taken into the next list of the key.
  *
- * Long lists: strict mode reads Block options of up to three bytes, as RFC 7959 has them, so a list has up to 1048576 blocks, if U has room. Plain mode reads two bytes, and a Block1 option of
+ * Long lists: strict mode reads Block options of up to three bytes, as RFC 7959 has them, so a list has up to 1048576 blocks, if U has room. Plain mode reads up to two bytes, and a Block1 option of
  * three counts as absent: block 4096 and every later one is taken for a whole message, and PASS gives it to the application as the list. In plain mode, take zero bytes off the option's
  * front before the call; if three bytes remain, send 4.13 and make no call. An option of more than three bytes counts as absent in either mode. RFC 7959 has none: send 4.02 and make no call. */
 
@@ -131,7 +131,7 @@ enum block_handler_refusal {
     BLOCK_HANDLER_CLOCK = 2,         /* The time is before the table's clock: that of an earlier call which was not refused by 1, 2 or 3. */
     BLOCK_HANDLER_FULL = 3,          /* The key is not live, and sixteen others are. */
     BLOCK_HANDLER_NO_ROOM = 4,       /* The message leaves no room for a block: bare + 12 > limit. */
-    BLOCK_HANDLER_NO_BLOCK = 5,      /* No block value can be made, as for a size of 0, or for a num above 65535 (in strict mode above 1048575). */
+    BLOCK_HANDLER_NO_BLOCK = 5,      /* No block value can be made: bare + 12 is just the limit; or there is no Block option and room for 4096 bytes or more; or the num would pass 65535 (in strict mode 1048575). */
     BLOCK_HANDLER_JUMP = 6,          /* The block ends more than 16,384 bytes past what is assembled (plain mode). */
     BLOCK_HANDLER_PIECE = 7,         /* The piece is too small for the body or the response. */
     BLOCK_HANDLER_PAST_THE_END = 8,  /* The chunk asked for is past the end. A request's Block2 is recorded, and a body completed in it is gone. */

@@ -25,8 +25,8 @@ pub struct BlockHandlerConfig {
     pub cache_expiry_duration: Duration,
     /// In strict mode an upload is its blocks in order from block 0, and nothing else. Plain mode answers as coap-lite does, and takes
     /// blocks in any order: a push that is sent again, and is shorter, keeps the old one's tail; and the last block of a push, sent twice,
-    /// hands on a corrupt body the second time, zeros in place of all blocks but that one. Its uploads end at block 4095, since it reads
-    /// no longer option. A lane should be strict.
+    /// hands on a corrupt body the second time, zeros in place of all blocks but that one. The last block that it can
+    /// take is block 4095, since it reads no option of three bytes. A lane should be strict.
     pub mode: Mode,
     /// The longest upload: the length of each key's piece of the upload memory, 16 to 16,777,216.
     pub max_upload: usize,

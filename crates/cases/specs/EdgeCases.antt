@@ -1,4 +1,4 @@
--- Cases at the edges of document 01's numbers, beside its cases 1 to 12, as rows of a table of their own.
+-- Cases at the edges of document 01's numbers, of which document 02 has moved U's largest, beside its cases 1 to 12, as rows of a table of their own.
 use Prim.Native.Nat.{ℕ}
 use mathlib.Core.Bool.{Bool, true, false, cond}
 use mathlib.Core.List.{List, [], _∷_}
@@ -43,7 +43,9 @@ edgeCases =
     ∷ number (told (configOk (configured false 65535 4294967296 16777216 65536))) 0
     ∷ number (told (configOk (configured false 65535 4294967295 16777217 65536))) 0
     ∷ number (told (configOk (configured false 65535 4294967295 16777216 65537))) 0
-    -- U's largest is the same in strict mode.
+    -- U and V have the same limits in strict mode.
     ∷ number (told (configOk (configured true 65535 4294967295 16777216 65536))) 1
     ∷ number (told (configOk (configured true 65535 4294967295 16777217 65536))) 0
+    ∷ number (told (configOk (configured true 65535 4294967295 16777216 65537))) 0
+    ∷ number (told (configOk (configured true 1 1 15 16))) 0
     ∷ []

@@ -11,6 +11,6 @@ unfoldable pub numLimit : Bool → ℕ
 numLimit strict = cond strict 1048575 65535
 
 -- How many nums an option of so many bytes can hold: all its bits are num's but four. So a num that is read is "at most 4095", and in strict mode "up to 1,048,575". There all
--- that is made can be written; in plain mode a num from 4096 on cannot.
+-- that is made is written whole; in plain mode a num from 4096 on is written modulo 4096.
 unfoldable pub nums : Bool → ℕ
 nums strict = 2 ^ (8 * byteLimit strict - 4)

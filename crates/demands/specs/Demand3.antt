@@ -143,10 +143,10 @@ NothingInPlain c w time k =
 
 -- The client's blocks: `first` and then `rest`, each of 2 to the power x + 4 bytes.
 pub record Blocks (c : Config) (x : ℕ) (first : Sent) (rest : List Sent) : Type 0 where
-  -- "Its client sends blocks 0 to n-1 in order, n from 1 to 4096", and "in strict mode .. up to 1,048,576" (document 02), where n is the length of first ∷ rest: as many as
-  -- the mode's nums, which are so many. (It follows from `numbered`, and is stated as the demand states it.)
-  -- "All .. marked "more" but the last, which is .. unmarked": what the Block1 option of each reads as.
+  -- "Its client sends blocks 0 to n-1 in order, n from 1 to 4096", and "in strict mode .. up to 1,048,576" (document 02), where n is the length of first ∷ rest: at most
+  -- `nums`, which is 4,096, and in strict mode 1,048,576. (It follows from `numbered`, and is stated as the demand states it.)
   pub count : length (first ∷ rest) ≤ nums (c .strict)
+  -- "All .. marked "more" but the last, which is .. unmarked": what the Block1 option of each reads as.
   pub numbered : Each (λ j more r. requestBlock c (r .block1) ≡ Given (block j more x)) 0 first rest
   -- "One size from 16 to 1024 bytes": 2 to the power x + 4.
   pub size : x ≤ 6

@@ -234,3 +234,18 @@ fn one_block_more() {
         handed(&mut handler, 0, blocks, 0, &[], &list);
     }
 }
+
+/// A block whose message leaves room for one byte is taken, and answered with a num that counts in bytes: in strict mode alone one above 65,535.
+#[test]
+fn a_num_that_only_strict_mode_makes() {
+    let list = list(4097 * 16);
+    let mut handler = handler(Mode::Strict, list.len());
+    for num in 0..4096 {
+        taken(&mut handler, 0, num, 0, &block_bytes(num));
+    }
+    let (block1, payload) = (option(4096, true, 0), block_bytes(4096));
+    let tight = Request { bare: 1152 - 12 - 1, ..request(0, &block1, &payload) };
+    let answered = BlockValue { num: 65_536, more: false, size_exponent: 0 };
+    assert_eq!(handler.intercept_request(&tight), Ok(RequestAnswer::Continue { block1: answered }));
+    handed(&mut handler, 0, 4097, 0, &[], &list);
+}
