@@ -21,8 +21,12 @@ use Rattle.places.specs.Places as places
 use Rattle.judge.specs.Limits as judge
 use Rattle.call.specs.Call as h
 
+unfoldable options : Unit {0}
+unfolding mode.byteLimit mode.nums uint.uint uint.shortest option.readOf negotiation.requestBlock
+options = tt
+
 unfoldable pub values : Unit {0}
-unfolding mode.byteLimit mode.numLimit mode.nums value.largestPower value.made value.sizeOf uint.uint uint.shortest option.readOf negotiation.requestBlock negotiation.negotiated negotiation.within negotiation.replyAt chunk.chunkOf
+unfolding options mode.numLimit value.largestPower value.made value.sizeOf negotiation.negotiated negotiation.within negotiation.replyAt chunk.chunkOf
 values = tt
 
 unfoldable pub memories : Unit {0}

@@ -82,7 +82,7 @@ pub record PassesFive (c : Config) (w : World) (q : Call) (r : Request) (b : Blo
 abbrev pub plainly : Config → Config
 plainly c = record { strict = false; limit = c .limit; lifetime = c .lifetime; upload = c .upload; response = c .response }
 
--- The request p says in plain mode what r says in strict mode: all is the same but the options' bytes, and those are read as the same values. (Which are: `ReadAlike`.)
+-- The request p says in plain mode what r says in strict mode: all is the same but the options' bytes, and those are read as the same values. (`ReadAlike` says of which it holds.)
 pub record SaysTheSame (c : Config) (r p : Request) : Type 0 where
   pub bare : p .bare ≡ r .bare
   pub payload : p .payload ≡ r .payload
