@@ -7,7 +7,8 @@ use crate::{BlockHandler, BlockHandlerConfig, BlockValue, Mode, Refusal, Request
 /// As many blocks as an option of three bytes can number.
 const BLOCKS: u32 = 1_048_576;
 
-const SLICES: u32 = 64;
+/// Short ones, so that some of them are not disturbed by the tests that run beside this one.
+const SLICES: u32 = 1024;
 
 /// The list's bytes from a block of 16 on: each depends on its place, so that an exchange would show.
 fn block_bytes(num: u32) -> [u8; 16] {
@@ -152,9 +153,9 @@ fn sixteen_mebibytes() {
         slices.push(start.elapsed());
     }
     handed(&mut handler, u64::from(BLOCKS), BLOCKS - 1, 0, &block_bytes(BLOCKS - 1), &list);
-    let (first, last) = (least(&slices[..16]), least(&slices[48..]));
+    let (first, last) = (least(&slices[..256]), least(&slices[768..]));
     println!(
-        "long upload: {BLOCKS} blocks of 16 bytes, {:.1} s; {} blocks in {first:.2} ms at the start and {last:.2} ms at the end; \
+        "long upload: {BLOCKS} blocks of 16 bytes, {:.1} s; {} blocks in {first:.3} ms at the start and {last:.3} ms at the end; \
          {} turns of three other lanes, {} refusals",
         start.elapsed().as_secs_f64(),
         BLOCKS / SLICES,
