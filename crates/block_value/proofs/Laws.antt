@@ -2,7 +2,7 @@
 use mathlib.Core.Path.{_≡_, sym, ap, _∙_}
 use mathlib.Core.Bool.{Bool}
 use mathlib.Core.Logic.{⊎-elim}
-use Prim.Native.Nat.{ℕ, zero, suc, _+_, _*_, _%_, _^_, _≤_, _<_}
+use Prim.Native.Nat.{ℕ, zero, suc, _+_, _-_, _*_, _%_, _^_, _≤_, _<_}
 use native.Mathlib.Nat.{mul-comm, mul-le-mul, eq-or-lt-of-le, lt-of-not-le, lt-of-lt-of-le, le-of-suc-le-suc}
 use native.Mathlib.Omega.{arith}
 use lib.Dec.{lit<}
@@ -42,6 +42,12 @@ size-shifted e = shl-exact {a = 16} 5 (e % 8) 64 (lit< tt) (omega arith) ∙ mul
 pub size-is : (e : ℕ) → e ≤ 7 → sizeOf e ≡ 2 ^ (e + 4)
 unfolding sizeOf
 size-is e h = ap (λ (n : ℕ). 2 ^ (n + 4)) (omega arith)
+
+-- a size is a multiple of every smaller one
+pub size-smaller : (e k : ℕ) → e ≤ 7 → k ≤ e → 2 ^ (e - k) * sizeOf k ≡ sizeOf e
+size-smaller e k h l =
+    let n : e - k + (k + 4) ≡ e + 4 = omega arith in
+    rw (size-is k (omega arith), size-is e h) (sym (pow-add 2 (e - k) (k + 4)) ∙ ap (λ (n : ℕ). 2 ^ n) n)
 
 pub size-least : (e : ℕ) → 16 ≤ sizeOf e
 unfolding sizeOf

@@ -1,5 +1,5 @@
 -- What the statements ask for can be given, by computation. Assumes nothing.
-use Prim.Native.Nat.{ℕ, _+_, _≤_, _<_}
+use Prim.Native.Nat.{ℕ, zero, suc, _+_, _≤_, _<_}
 use mathlib.Core.Bool.{Bool, true, false, _&&_, false≢true}
 use mathlib.Core.Path.{_≡_, refl, sym, _∙_, ap, subst}
 use mathlib.Core.Logic.{inl, inr}
@@ -10,6 +10,8 @@ use lib.ListN.{length, replicate}
 use lib.Dec.{ltb}
 use borrow.Author.Tests.{ltb-true}
 use Rattle.pieces.proofs.Tests.{and-left, and-right}
+use Rattle.config.specs.declared.Config.{Config}
+use Rattle.config.proofs.Mode.{nums-least}
 use Rattle.block_value.specs.Value.{sizeOf}
 use Rattle.negotiation.specs.Negotiation.{negotiated}
 use Rattle.negotiation.specs.declared.MaybeBlock.the-variants.{Given}
@@ -18,19 +20,21 @@ use Rattle.block_state.specs.Message.{request, WhatBytes}
 use Rattle.apart.specs.Answers.{said, served}
 use Rattle.keys.specs.Keys as keys
 use Rattle.answer_sources.specs.Parts.{servedChunk}
-use Rattle.call.specs.Call.{Call, call, withinLimits}
+use Rattle.call.specs.Call.{World, Call, call, withinLimits}
 use Rattle.one_call.specs.Strict.{BadlyFormed, PassesFive}
 use Rattle.demands.specs.Demand3.{Sent, callOn, block, All, AllBytes, Blocks, Granted}
+use Rattle.demands.specs.Falling.{FallingBlocks}
 use Rattle.demands.specs.Clocks.{requestsOn, GrantedOwn}
 use Rattle.demands.proofs.Runs.{only-asks, own-requests, rising-own}
+use Rattle.demands.proofs.Falling.{one-size}
 use Rattle.many_calls.specs.Twice.{SentAgain}
 use Rattle.many_calls.specs.Crossing.{among, AllAmong, counted, callsOf, FromFresh, Sends}
 use Rattle.many_calls.specs.Pages.{lastStored}
 use Rattle.cases.specs.Shams.{config, fresh, key, sent, firstBlock, lastBlock, later}
-use Rattle.cases.specs.Given.{large, lentWorld, full, sixteenMore, farAgain, keyOfByte, firstOf, nextOf, singleOf, pushesOf, onEach, bytes, backwards, refused, answering, crossing}
+use Rattle.cases.specs.Given.{large, lentWorld, full, sixteenMore, farAgain, keyOfByte, firstOf, nextOf, singleOf, halved, pushesOf, onEach, bytes, backwards, refused, answering, crossing}
 use Rattle.cases.specs.Given.{EachSends, goesBack, page, storing, asked, AllCanBeGiven}
 use Rattle.cases.proofs.Computes.{values, limits, calls}
-use Rattle.cases.proofs.Shams.{fresh-free, fresh-nothing, one-block, two-blocks, can-be-given}
+use Rattle.cases.proofs.Shams.{fresh-free, fresh-nothing, reads, one-block, can-be-given}
 
 -- ---- what holds of every call, by one test
 
@@ -61,14 +65,34 @@ counted-is : counted 0 crossing ≡ counting
 unfolding limits
 counted-is = refl
 
+-- 32 bytes, and nothing more in a block of 16
+falls : (strict : Bool) (b : ℕ) → FallingBlocks (config strict) halved (firstOf b) (nextOf b ∷ [])
+unfolding values
+falls strict b =
+    let few = nums-least strict in
+    record {
+      numbered = (
+        record { num = 0; starts = refl; count = omega arith; reads = reads (config strict) (0x09 ∷ []) (omega arith) },
+        record { num = 2; starts = refl; count = omega arith; reads = reads (config strict) (0x20 ∷ []) (omega arith) },
+      );
+      size = omega arith;
+      falls = λ j h. falling j;
+      full = (refl, omega arith);
+      alone = (refl, refl);
+      room = (omega arith, omega arith);
+      fits = omega arith;
+      prompt = (omega arith, tt);
+    }
+  where
+    falling : (j : ℕ) → halved (suc j) ≤ halved j
+    falling zero = omega arith
+    falling (suc j) = omega arith
+
 sends : (strict : Bool) (b : ℕ) → requestsOn (keyOfByte b) counting ≡ callsOf (keyOfByte b) (pushesOf b) → Sends (config strict) (keyOfByte b) crossing (pushesOf b)
 sends strict b own =
     record {
       own = ap (requestsOn (keyOfByte b)) counted-is ∙ own;
-      proper = (
-        two-blocks (config strict) (omega arith) 5 9 (replicate 16 b) (b ∷ []) refl (omega arith) (omega arith) (omega arith),
-        (one-block (config strict) (omega arith) 10 (b ∷ b ∷ []) (omega arith) (omega arith), tt),
-      );
+      proper = (falls strict b, (one-size (config strict) 0 _ _ (one-block (config strict) (omega arith) 10 (b ∷ b ∷ []) (omega arith) (omega arith)), tt));
     }
 
 -- ---- seventeen blocks
@@ -109,14 +133,14 @@ far-bytes =
     bytes-both (map (callOn key) (map full options)) (callOn key (sent 1 (0x01 ∷ 0x06 ∷ []) (9 ∷ [])) ∷ []) (bytes-full options refl)
     (((omega arith, (omega arith, tt)), tt), tt)
 
-far-granted : (u d : List ℕ) → length u ≡ 262160 → length d ≡ 256 → GrantedOwn large (lentWorld u d) key 6 (full 0x0E) sixteenMore (map (callOn key) sixteenMore)
+far-granted : (u d : List ℕ) → length u ≡ 262160 → length d ≡ 256 → GrantedOwn large (lentWorld u d) key (full 0x0E) sixteenMore (map (callOn key) sixteenMore)
 unfolding keys.same
 far-granted u d hu hd =
     let t : 1 ≤ 1 = omega arith in
     record {
       entry = inr (fresh-free large (lentWorld u d) 1 refl);
       nothing = fresh-nothing large (lentWorld u d) 1 key refl;
-      push = record { limits = within u d hu hd; sixteen = refl; bytes = far-bytes; blocks = seventeen };
+      calls = record { limits = within u d hu hd; sixteen = refl; bytes = far-bytes };
       own = refl;
       clock = rising-own key 0 (map (callOn key) (full 0x0E ∷ sixteenMore))
           (omega arith, (t, (t, (t, (t, (t, (t, (t, (t, (t, (t, (t, (t, (t, (t, (t, (t, tt)))))))))))))))));
@@ -125,15 +149,14 @@ far-granted u d hu hd =
 -- ---- all of them
 
 -- a push as the mission has it is one as Clocks.antt of demands has it
-own : (strict : Bool) (x : ℕ) (first : Sent) (rest : List Sent) (calls : List Call) → Granted (config strict) fresh key x first rest calls
-    → GrantedOwn (config strict) fresh key x first rest calls
-own strict x first rest calls g =
+pub own : (c : Config) (w : World) (first : Sent) (rest : List Sent) (calls : List Call) → Granted c w key first rest calls → GrantedOwn c w key first rest calls
+own c w first rest calls g =
     record {
       entry = g .entry;
       nothing = g .nothing;
-      push = g .push;
+      calls = g .calls;
       own = own-requests key calls (only-asks key calls rest (g .own)) ∙ g .own;
-      clock = rising-own key 0 (callOn key first ∷ calls) (g .clock);
+      clock = rising-own key (w .table .clock) (callOn key first ∷ calls) (g .clock);
     }
 
 -- a marked block 1 of n bytes passes checks 1 to 5, where its limits and its negotiation do
@@ -204,27 +227,27 @@ each-sends strict = from bytes owns
     from [] o = tt
     from (b ∷ l) o = (sends strict b (o .0), from l (o .1))
 
-goes-back : (strict : Bool) → GrantedOwn (config strict) fresh key 0 firstBlock (lastBlock ∷ []) goesBack
+goes-back : (strict : Bool) → GrantedOwn (config strict) fresh key firstBlock (lastBlock ∷ []) goesBack
 unfolding keys.same
 goes-back strict =
-    let g = can-be-given .two strict in
+    let g = can-be-given .two strict .1 in
     record {
       entry = g .entry;
       nothing = g .nothing;
-      push = record {
-        limits = g .push .limits;
+      calls = record {
+        limits = g .calls .limits;
         sixteen = refl;
         bytes = (((omega arith, tt), tt), (((omega arith, tt), tt), (((omega arith, tt), tt), (((omega arith, tt), tt), tt))));
-        blocks = g .push .blocks;
       };
       own = refl;
       clock = (λ y. omega arith, (λ y. omega arith, (λ y. absurd (false≢true y), (λ y. omega arith, tt))));
     }
 
-far-again : (u d : List ℕ) → length u ≡ 262160 → length d ≡ 256 → SentAgain large (lentWorld u d) key 6 (full 0x0E) sixteenMore (map (callOn key) sixteenMore) farAgain
+far-again : (u d : List ℕ) → length u ≡ 262160 → length d ≡ 256 → SentAgain large (lentWorld u d) key (λ j. 6) (full 0x0E) sixteenMore (map (callOn key) sixteenMore) farAgain
 far-again u d hu hd =
     let t : 1 ≤ 2 = omega arith in
     record {
+      blocks = one-size large 6 _ _ seventeen;
       granted = far-granted u d hu hd;
       same = refl;
       clock = (t, (t, (t, (t, (t, (t, (t, (t, (t, (t, (t, (t, (t, (t, (t, (t, (t, tt)))))))))))))))));
@@ -236,19 +259,26 @@ unfolding calls
 all-can-be-given =
     record {
       twice = λ strict. record {
-        granted = own strict 0 firstBlock (lastBlock ∷ []) later (can-be-given .two strict);
+        blocks = one-size (config strict) 0 _ _ (can-be-given .two strict .0);
+        granted = own (config strict) fresh firstBlock (lastBlock ∷ []) later (can-be-given .two strict .1);
         same = refl;
         clock = (omega arith, (omega arith, (omega arith, (omega arith, (omega arith, (omega arith, tt))))));
         soon = omega arith;
       };
-      once = λ strict. record { granted = own strict 0 _ [] [] (can-be-given .one strict); same = refl; clock = (omega arith, tt); soon = omega arith };
+      once = λ strict. record {
+        blocks = one-size (config strict) 0 _ _ (can-be-given .one strict .0);
+        granted = own (config strict) fresh _ [] [] (can-be-given .one strict .1);
+        same = refl;
+        clock = (omega arith, tt);
+        soon = omega arith;
+      };
       far = far-again;
       cross = crosses;
       each = each-sends;
       back = goes-back;
       five = passes-five 15 refl refl;
       bad = inr (inr (refl, λ e. let z : _≡_ {A = ℕ} 15 16 = e in omega arith));
-      misplaced = (λ e. let z : _≡_ {A = ℕ} 1 0 = e in omega arith, λ e. let z : _≡_ {A = ℕ} 16 0 = e .0 in omega arith);
+      misplaced = (λ e. let z : _≡_ {A = ℕ} 1 0 = e in omega arith, inl (λ e. let z : _≡_ {A = ℕ} 16 0 = e in omega arith));
       astray = passes-five 16 refl refl;
       well = well-formed;
       serves = serves-it;

@@ -18,6 +18,7 @@ use Rattle.block_value.specs.Value.{sizeOf, blockSize, blockStart}
 use Rattle.block_value.specs.declared.BlockValue.{BlockValue}
 use Rattle.negotiation.specs.declared.MaybeBlock.the-variants.{Absent}
 use Rattle.config.specs.declared.Config.{Config}
+use Rattle.config.specs.Mode.{numLimit}
 use Rattle.config.proofs.Mode.{limit-least}
 use Rattle.block_state.specs.declared.BlockState.{BlockState}
 use Rattle.block_state.specs.declared.Answer.the-variants.{Continue, Handed}
@@ -30,9 +31,11 @@ use Rattle.pieces.proofs.Tests.{clash-of}
 use Rattle.call.specs.Call.{call}
 use Rattle.one_call.proofs.Checks.{meets-all}
 use Rattle.one_call.proofs.Step.{step-more, step-last}
-use Rattle.demands.specs.Demand3.{block, Fills, Demand3}
-use Rattle.demands.proofs.OwnStep.{unmarked, OneBlock, form-ok, agreed, held-after}
-use Rattle.demands.proofs.Demand3.{demand3}
+use Rattle.demands.specs.Demand3.{block, Fills}
+use Rattle.demands.specs.Falling.{Demand3Falling}
+use Rattle.demands.proofs.OwnStep.{unmarked, OneBlock, form-ok, agreed-asked, held-after}
+use Rattle.demands.proofs.Falling.{one-size}
+use Rattle.demands.proofs.Demand3.{demand3-falling}
 use Rattle.cases.specs.Incident.{Carries, once, twice, TailKept, shop, Story, StartsAfresh}
 use Rattle.cases.proofs.Shams.{two-blocks}
 use Rattle.cases.proofs.Computes.{calls}
@@ -40,10 +43,10 @@ use Rattle.cases.proofs.Computes.{calls}
 -- ---- strict mode
 
 pub starts-afresh : StartsAfresh call
-unfolding StartsAfresh Demand3
-starts-afresh c w k x first rest later strict o p own rise =
-    demand3 c w k x first rest later
-    (record { entry = inl o; nothing = λ plain. absurd (clash-of (c .strict) strict plain); push = p; own = own; clock = rise })
+unfolding StartsAfresh Demand3Falling
+starts-afresh c w k x first rest later strict b o p own rise =
+    demand3-falling c w k x first rest later b
+    (record { entry = inl o; nothing = λ plain. absurd (clash-of (c .strict) strict plain); calls = p; own = own; clock = rise })
 
 -- ---- plain mode
 
@@ -57,7 +60,10 @@ module _ (c : Config) (home at : ℕ) (s : BlockState) (u : List ℕ) (x j a l :
   replaced = patch u 0 (pieces.spliced (take l u) a (sizeOf x) (r .payload))
 
   carried : OneBlock c b r
-  carried = record { size = hx; count = omega (arith, hj, limit-least (c .strict)); numbered = h .numbered; full = fills m; alone = h .alone; room = h .room }
+  carried =
+      let count : j ≤ numLimit (c .strict) = omega (arith, limit-least (c .strict)) in
+      let agreed = agreed-asked c b r (h .numbered) hx count (omega (arith, h .full)) (h .room) in
+      record { size = hx; numbered = h .numbered; full = fills m; alone = h .alone; short = omega (arith, h .room); reply = unmarked b; agreed = agreed }
     where
       fills : (m : Bool) → Fills m (length (r .payload)) (sizeOf x)
       fills true = h .full
@@ -78,12 +84,12 @@ module _ (c : Config) (home at : ℕ) (s : BlockState) (u : List ℕ) (x j a l :
 
   within-more : m ≡ true → stepRequest c home at s u r ≡ left (withAssembled s (assembly l x)) replaced (Continue (unmarked b))
   within-more =
-      step-more c home at s u r b (unmarked b) (h .numbered) (agreed c b r carried) (form-ok c b r carried) (rw plain) l met l replaced body piece
+      step-more c home at s u r b (unmarked b) (h .numbered) (carried .agreed) (form-ok c b r carried) (rw plain) l met l replaced body piece
 
   within-last : m ≡ false
       → stepRequest c home at s u r ≡ left (withRecorded (withAssembled s (assembly 0 0)) Absent) replaced (Handed (unmarked b) (bytesFrom home l))
   within-last last =
-      step-last c home at s u r b (unmarked b) (h .numbered) (agreed c b r carried) (form-ok c b r carried) (rw plain) l met l replaced body piece last (h .alone)
+      step-last c home at s u r b (unmarked b) (h .numbered) (carried .agreed) (form-ok c b r carried) (rw plain) l met l replaced body piece last (h .alone)
 
 -- the two splices: the new payloads, and behind them what stood there
 module _ (u : List ℕ) (l size : ℕ) (p q : List ℕ) (hp : length p ≡ size) (hq : length q ≡ size) (h : size + size ≤ l) (hu : l ≤ length u) where
@@ -145,12 +151,8 @@ story =
       plain = (refl, (refl, refl));
       strict = (refl, (refl, refl));
       live = (0, omega arith, refl, refl);
-      push = record {
-        limits = refl;
-        sixteen = refl;
-        bytes = (((omega arith, tt), tt), (((omega arith, tt), tt), tt));
-        blocks = two-blocks (shop true) (omega arith) 6 7 (replicate 16 2) (replicate 16 3) refl (omega arith) (omega arith) (omega arith);
-      };
+      blocks = one-size (shop true) 0 _ _ (two-blocks (shop true) (omega arith) 6 7 (replicate 16 2) (replicate 16 3) refl (omega arith) (omega arith) (omega arith));
+      calls = record { limits = refl; sixteen = refl; bytes = (((omega arith, tt), tt), (((omega arith, tt), tt), tt)) };
       own = refl;
       clock = (omega arith, (omega arith, tt));
     }

@@ -3,4 +3,5 @@ pub mod Cases
 pub mod Incident
 pub mod Shams
 pub mod Given
+pub mod Falling
 pub mod Longest

@@ -120,10 +120,11 @@ module _ (c : Config) (x : ℕ) where
               rest = following 0 left;
               many = ap suc (following-many 0 left);
               full = joined-length 0 left;
+              blocks = blocks;
               granted = record {
                 entry = inr (fresh-free c (freshFor c) 0 refl);
                 nothing = fresh-nothing c (freshFor c) 0 key refl;
-                push = record { limits = within; sixteen = refl; bytes = all-bytes 0 left (omega arith); blocks = blocks };
+                calls = record { limits = within; sixteen = refl; bytes = all-bytes 0 left (omega arith) };
                 own = own-blocks (following 0 left);
                 clock = (omega arith, rising 0 left);
               };

@@ -47,7 +47,7 @@ pub fresh-nothing : (c : Config) (w : World) (time : ℕ) (k : Name) → w .tabl
 fresh-nothing c w time k fresh plain i b h y = rw (fresh-entry w fresh i b)
 
 -- an option of at most two bytes is read in either mode
-reads : (c : Config) (option : List ℕ) → length option ≤ 2 → requestBlock c (some option) ≡ Given (unpacked (uint option))
+pub reads : (c : Config) (option : List ℕ) → length option ≤ 2 → requestBlock c (some option) ≡ Given (unpacked (uint option))
 unfolding values
 reads c option short = ap counted (read-few (c .strict) option (omega (arith, bytes-least (c .strict))))
 
@@ -82,37 +82,37 @@ module _ (c : Config) (room : 48 ≤ c .limit) where
         prompt = (soon, tt);
       }
 
-given-one : (strict : Bool) → Granted (config strict) fresh key 0 (sent 5 [] (7 ∷ [])) [] []
+given-one : (strict : Bool) → Granted (config strict) fresh key (sent 5 [] (7 ∷ [])) [] []
 unfolding limits
 given-one strict =
     record {
       entry = inr (fresh-free (config strict) fresh 5 refl);
       nothing = fresh-nothing (config strict) fresh 5 key refl;
-      push = record {
-        limits = refl;
-        sixteen = refl;
-        bytes = ((tt, tt), tt);
-        blocks = one-block (config strict) (omega arith) 5 (7 ∷ []) (omega arith) (omega arith);
-      };
+      calls = record { limits = refl; sixteen = refl; bytes = ((tt, tt), tt) };
       own = refl;
       clock = (omega arith, tt);
     }
 
-given-two : (strict : Bool) → Granted (config strict) fresh key 0 firstBlock (lastBlock ∷ []) later
+blocks-one : (strict : Bool) → Blocks (config strict) 0 (sent 5 [] (7 ∷ [])) []
+blocks-one strict = one-block (config strict) (omega arith) 5 (7 ∷ []) (omega arith) (omega arith)
+
+given-two : (strict : Bool) → Granted (config strict) fresh key firstBlock (lastBlock ∷ []) later
 unfolding limits
 given-two strict =
     record {
       entry = inr (fresh-free (config strict) fresh 5 refl);
       nothing = fresh-nothing (config strict) fresh 5 key refl;
-      push = record {
+      calls = record {
         limits = refl;
         sixteen = refl;
         bytes = (((omega arith, tt), tt), (((omega arith, tt), tt), (((omega arith, tt), tt), (tt, (((omega arith, tt), tt), (((omega arith, tt), tt), tt))))));
-        blocks = two-blocks (config strict) (omega arith) 5 9 (replicate 16 65) (66 ∷ 67 ∷ []) refl (omega arith) (omega arith) (omega arith);
       };
       own = refl;
       clock = (omega arith, (omega arith, (omega arith, (omega arith, (omega arith, (omega arith, tt))))));
     }
+
+blocks-two : (strict : Bool) → Blocks (config strict) 0 firstBlock (lastBlock ∷ [])
+blocks-two strict = two-blocks (config strict) (omega arith) 5 9 (replicate 16 65) (66 ∷ 67 ∷ []) refl (omega arith) (omega arith) (omega arith)
 
 -- the one live entry has nothing assembled, and the others are free
 none-used : (i : ℕ) → i < 16 → entryAt used i .state .assembled .len ≡ 0
@@ -123,41 +123,41 @@ has-live : (strict : Bool) → HasLive (wide strict) used 6 key
 unfolding calls
 has-live strict = (0, omega arith, refl, refl)
 
-given-three : (strict : Bool) → Granted (wide strict) used key 6 wideFirst (wideSecond ∷ wideLast ∷ []) (callOn key wideSecond ∷ callOn key wideLast ∷ [])
-unfolding values limits
+given-three : (strict : Bool) → Granted (wide strict) used key wideFirst (wideSecond ∷ wideLast ∷ []) (callOn key wideSecond ∷ callOn key wideLast ∷ [])
+unfolding limits
 given-three strict =
     record {
       entry = inl (has-live strict);
       nothing = λ plain i b h l. none-used i b;
-      push = record {
-        limits = refl;
-        sixteen = refl;
-        bytes = (((omega arith, tt), tt), (((omega arith, tt), tt), (((omega arith, tt), tt), tt)));
-        blocks = record {
-          count = omega (arith, nums-least strict);
-          numbered = (reads (wide strict) (0x0E ∷ []) (omega arith), (reads (wide strict) (0x1E ∷ []) (omega arith), reads (wide strict) (0x26 ∷ []) (omega arith)));
-          size = omega arith;
-          full = (refl, (refl, omega arith));
-          alone = (refl, (refl, refl));
-          room = (omega arith, (omega arith, omega arith));
-          fits = omega arith;
-          prompt = (omega arith, (omega arith, tt));
-        };
-      };
+      calls = record { limits = refl; sixteen = refl; bytes = (((omega arith, tt), tt), (((omega arith, tt), tt), (((omega arith, tt), tt), tt))) };
       own = refl;
       clock = (omega arith, (omega arith, (omega arith, tt)));
+    }
+
+blocks-three : (strict : Bool) → Blocks (wide strict) 6 wideFirst (wideSecond ∷ wideLast ∷ [])
+unfolding values
+blocks-three strict =
+    record {
+      count = omega (arith, nums-least strict);
+      numbered = (reads (wide strict) (0x0E ∷ []) (omega arith), (reads (wide strict) (0x1E ∷ []) (omega arith), reads (wide strict) (0x26 ∷ []) (omega arith)));
+      size = omega arith;
+      full = (refl, (refl, omega arith));
+      alone = (refl, (refl, refl));
+      room = (omega arith, (omega arith, omega arith));
+      fits = omega arith;
+      prompt = (omega arith, (omega arith, tt));
     }
 
 pub can-be-given : CanBeGiven
 unfolding calls
 can-be-given =
     record {
-      one = given-one;
-      two = given-two;
+      one = λ strict. (blocks-one strict, given-one strict);
+      two = λ strict. (blocks-two strict, given-two strict);
       between = λ strict. elim strict [ true ↦ refl | false ↦ refl ];
       refusals = λ strict. elim strict [ true ↦ refl | false ↦ refl ];
       live = has-live;
-      three = given-three;
+      three = λ strict. (blocks-three strict, given-three strict);
     }
 
 -- ---- the shams
@@ -169,15 +169,15 @@ module _ (h : Handler) (d : Demand3 h) (strict : Bool) where
   -- the one block is handed on, and the first of two is answered Continue
   handed-one : said (h (config strict) fresh (callOn key alone) .answer) .kind ≡ handed
   unfolding Demand3 keys.same
-  handed-one = d (config strict) fresh key 0 alone [] [] (given-one strict) .0
+  handed-one = d (config strict) fresh key 0 alone [] [] (blocks-one strict) (given-one strict) .0
 
   shown-one : bodyOf (h (config strict) fresh (callOn key alone) .answer) (7 ∷ []) (h (config strict) fresh (callOn key alone) .world .upload) ≡ 7 ∷ []
   unfolding Demand3 keys.same
-  shown-one = d (config strict) fresh key 0 alone [] [] (given-one strict) .1
+  shown-one = d (config strict) fresh key 0 alone [] [] (blocks-one strict) (given-one strict) .1
 
   continued : said (h (config strict) fresh (callOn key firstBlock) .answer) .kind ≡ continue
   unfolding Demand3 keys.same
-  continued = d (config strict) fresh key 0 firstBlock (lastBlock ∷ []) later (given-two strict) .0
+  continued = d (config strict) fresh key 0 firstBlock (lastBlock ∷ []) later (blocks-two strict) (given-two strict) .0
 
 -- no part of a memory of zeros begins with another byte
 zeros : (n i : ℕ) → getD {A = ℕ} (replicate n 0) i 0 ≡ 0
@@ -222,7 +222,7 @@ excluded =
           ∙ shown-zero (h (config b) fresh (callOn key alone) .answer) (7 ∷ []) 512 (handed-one h d b) in
           omega arith;
       handsAtZero = λ b h r d.
-          let z : _≡_ {A = ℕ} 0 1 = cc (continued h d b, r (config b) fresh key firstBlock true 0 refl (given-two b .push .limits) (first-reads (config b))) in
+          let z : _≡_ {A = ℕ} 0 1 = cc (continued h d b, r (config b) fresh key firstBlock true 0 refl (given-two b .calls .limits) (first-reads (config b))) in
           omega arith;
     }
 

@@ -1,5 +1,5 @@
 -- What the statements of Twice.antt, Crossing.antt and Pages.antt of many_calls, Clocks.antt of demands and Strict.antt of one_call ask for can be given, in both modes.
-use Prim.Native.Nat.{ℕ}
+use Prim.Native.Nat.{ℕ, zero, suc}
 use mathlib.Core.Bool.{Bool, true, false}
 use mathlib.Core.List.{List, [], _∷_, _++_, map}
 use mathlib.Core.Path.{_≡_}
@@ -46,7 +46,7 @@ sixteenMore =
 abbrev pub farAgain : Sent
 farAgain = sent 2 (0x01 ∷ 0x06 ∷ []) (9 ∷ [])
 
--- ---- Sixteen keys, each with a push of two blocks and then one of a single block
+-- ---- Sixteen keys, each with a push of two blocks, whose size falls from 32 to 16 and whose last block is empty, and then one of a single block
 
 abbrev pub bytes : List ℕ
 bytes = 1 ∷ 2 ∷ 3 ∷ 4 ∷ 5 ∷ 6 ∷ 7 ∷ 8 ∷ 9 ∷ 10 ∷ 11 ∷ 12 ∷ 13 ∷ 14 ∷ 15 ∷ 16 ∷ []
@@ -58,18 +58,22 @@ abbrev pub keyOfByte : ℕ → Name
 keyOfByte b = b ∷ []
 
 abbrev pub firstOf : ℕ → Sent
-firstOf b = sent 5 (0x08 ∷ []) (replicate 16 b)
+firstOf b = sent 5 (0x09 ∷ []) (replicate 32 b)
 
 abbrev pub nextOf : ℕ → Sent
-nextOf b = sent 9 (0x10 ∷ []) (b ∷ [])
+nextOf b = sent 9 (0x20 ∷ []) []
 
 abbrev pub singleOf : ℕ → Sent
 singleOf b = sent 10 [] (b ∷ b ∷ [])
 
+abbrev pub halved : ℕ → ℕ
+halved zero = 1
+halved (suc j) = 0
+
 abbrev pub pushesOf : ℕ → List Transfer
 pushesOf b =
-    record { exponent = 0; first = firstOf b; rest = nextOf b ∷ [] }
-    ∷ record { exponent = 0; first = singleOf b; rest = [] }
+    record { exponent = halved; first = firstOf b; rest = nextOf b ∷ [] }
+    ∷ record { exponent = λ j. 0; first = singleOf b; rest = [] }
     ∷ []
 
 abbrev pub onEach : (ℕ → Sent) → List ℕ → List Call
@@ -116,13 +120,13 @@ abbrev pub asked : Bool → Done
 asked strict = call (config strict) (after call (config strict) fresh storing) asking
 
 pub record AllCanBeGiven : Type 0 where
-  pub twice : (strict : Bool) → SentAgain (config strict) fresh key 0 firstBlock (lastBlock ∷ []) later lastAgain
-  pub once : (strict : Bool) → SentAgain (config strict) fresh key 0 (sent 5 [] (7 ∷ [])) [] [] oneAgain
+  pub twice : (strict : Bool) → SentAgain (config strict) fresh key (λ j. 0) firstBlock (lastBlock ∷ []) later lastAgain
+  pub once : (strict : Bool) → SentAgain (config strict) fresh key (λ j. 0) (sent 5 [] (7 ∷ [])) [] [] oneAgain
   pub far : (u d : List ℕ) → length u ≡ 262160 → length d ≡ 256
-      → SentAgain large (lentWorld u d) key 6 (full 0x0E) sixteenMore (map (callOn key) sixteenMore) farAgain
+      → SentAgain large (lentWorld u d) key (λ j. 6) (full 0x0E) sixteenMore (map (callOn key) sixteenMore) farAgain
   pub cross : (strict : Bool) → FromFresh (config strict) fresh (map keyOfByte bytes) crossing
   pub each : (strict : Bool) → EachSends strict bytes
-  pub back : (strict : Bool) → GrantedOwn (config strict) fresh key 0 firstBlock (lastBlock ∷ []) goesBack
+  pub back : (strict : Bool) → GrantedOwn (config strict) fresh key firstBlock (lastBlock ∷ []) goesBack
   pub five : PassesFive (config true) fresh (callOn key bothFaults) (bothFaults .message) (block 1 true 0)
   pub bad : BadlyFormed (block 1 true 0) (length (bothFaults .message .payload))
   pub misplaced : Misplaced (assembledFor (config true) fresh (callOn key bothFaults)) (block 1 true 0)

@@ -22,7 +22,8 @@ use Rattle.entries.specs.Entries.{inUse}
 use Rattle.block_table.specs.Table.{freshTable, tableWith}
 use Rattle.call.specs.Call.{World, Call, call}
 use Rattle.one_call.specs.Handler.{Handler}
-use Rattle.demands.specs.Demand3.{run, callsOn, seenOn, Sent, callOn, block, joined, Rising, HasLive, Push, HandsOn}
+use Rattle.demands.specs.Demand3.{run, callsOn, seenOn, Sent, callOn, block, joined, Rising, HasLive, Calls, HandsOn}
+use Rattle.demands.specs.Falling.{FallingBlocks}
 use Rattle.cases.specs.Shams.{sent}
 
 -- ---- Plain mode
@@ -84,16 +85,18 @@ pub record Story : Type 0 where
   pub strict : HandsOn (replicate 16 2 ++ replicate 16 3) (seenOn lane (run call (shop true) cancelled newList))
   -- It is a push as demand 3 has it, on a live entry with bytes assembled: what `StartsAfresh` below asks can be given.
   pub live : HasLive (shop true) cancelled 6 lane
-  pub push : Push (shop true) cancelled lane 0 newFirst (newLast ∷ []) (callOn lane newLast ∷ [])
+  pub blocks : FallingBlocks (shop true) (λ j. 0) newFirst (newLast ∷ [])
+  pub calls : Calls (shop true) cancelled lane newFirst (callOn lane newLast ∷ [])
   pub own : callsOn lane (callOn lane newLast ∷ []) ≡ callOn lane newLast ∷ []
   pub clock : Rising (cancelled .table .clock) newList
 
 -- ---- Strict mode
 
--- Whatever is assembled for the key, a push that starts again at block 0, with no other call on the key between, hands on exactly its own blocks.
+-- Whatever is assembled for the key, of blocks of whatever size, a push that starts again at block 0, with no other call on the key between, hands on exactly its own blocks. Its
+-- sizes may fall.
 unfoldable pub StartsAfresh : Handler → Type 0
 StartsAfresh h =
-    (c : Config) (w : World) (k : Name) (x : ℕ) (first : Sent) (rest : List Sent) (later : List Call)
-    → c .strict ≡ true → HasLive c w (first .time) k → Push c w k x first rest later
+    (c : Config) (w : World) (k : Name) (x : ℕ → ℕ) (first : Sent) (rest : List Sent) (later : List Call)
+    → c .strict ≡ true → FallingBlocks c x first rest → HasLive c w (first .time) k → Calls c w k first later
     → callsOn k later ≡ map (callOn k) rest → Rising (w .table .clock) (callOn k first ∷ later)
     → HandsOn (joined first rest) (seenOn k (run h c w (callOn k first ∷ later)))

@@ -6,4 +6,5 @@ pub mod HeldCases
 pub mod Incident
 pub mod Shams
 pub mod Given
+pub mod Falling
 pub mod Longest

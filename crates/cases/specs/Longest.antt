@@ -10,7 +10,7 @@ use Rattle.config.specs.Mode.{nums}
 use Rattle.block_table.specs.Table.{freshTable}
 use Rattle.judge.specs.Limits.{configOk}
 use Rattle.call.specs.Call.{World}
-use Rattle.demands.specs.Demand3.{Sent, callOn, joined, Granted}
+use Rattle.demands.specs.Demand3.{Sent, callOn, joined, Blocks, Granted}
 use Rattle.cases.specs.Shams.{key}
 
 -- A fresh table, with memories of zeros that are as long as the configuration asks.
@@ -23,7 +23,8 @@ pub record PushOf (c : Config) (x n : ℕ) : Type 0 where
   pub rest : List Sent
   pub many : length (first ∷ rest) ≡ n
   pub full : length (joined first rest) ≡ n * sizeOf x
-  pub granted : Granted c (freshFor c) key x first rest (map (callOn key) rest)
+  pub blocks : Blocks c x first rest
+  pub granted : Granted c (freshFor c) key first rest (map (callOn key) rest)
 
 -- There is one for every configuration, size and number of blocks, if the mode has so many nums, a message of 20 bytes leaves room for the size, and the piece holds the body.
 abbrev pub Longest : Type 0

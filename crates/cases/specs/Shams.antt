@@ -23,7 +23,7 @@ use Rattle.entries.specs.Entries.{inUse}
 use Rattle.block_table.specs.Table.{freshTable, tableWith}
 use Rattle.call.specs.Call.{World, Call, done, call, withinLimits}
 use Rattle.one_call.specs.Handler.{Handler}
-use Rattle.demands.specs.Demand3.{Seen, run, Sent, callOn, block, HasLive, Granted, Demand3}
+use Rattle.demands.specs.Demand3.{Seen, run, Sent, callOn, block, HasLive, Blocks, Granted, Demand3}
 
 -- ---- What is given can be given
 
@@ -93,8 +93,8 @@ wideLast = sent 8 (0x26 ∷ []) (67 ∷ 68 ∷ [])
 
 pub record CanBeGiven : Type 0 where
   -- One block alone, and two blocks with those calls between them, in either mode.
-  pub one : (strict : Bool) → Granted (config strict) fresh key 0 (sent 5 [] (7 ∷ [])) [] []
-  pub two : (strict : Bool) → Granted (config strict) fresh key 0 firstBlock (lastBlock ∷ []) later
+  pub one : (strict : Bool) → Blocks (config strict) 0 (sent 5 [] (7 ∷ [])) [] × Granted (config strict) fresh key (sent 5 [] (7 ∷ [])) [] []
+  pub two : (strict : Bool) → Blocks (config strict) 0 firstBlock (lastBlock ∷ []) × Granted (config strict) fresh key firstBlock (lastBlock ∷ []) later
   -- The calls between them are of four kinds: one is taken, one gets refusal 1, one is cached, and one gets refusal 9, or in plain mode 7.
   pub between : (strict : Bool)
       → kinds (run call (config strict) fresh (callOn key firstBlock ∷ later)) ≡ continue ∷ continue ∷ refusal ∷ first ∷ refusal ∷ handed ∷ []
@@ -102,7 +102,9 @@ pub record CanBeGiven : Type 0 where
       → numbers (run call (config strict) fresh (callOn key firstBlock ∷ later)) ≡ 0 ∷ 0 ∷ 1 ∷ 0 ∷ cond strict 9 7 ∷ 0 ∷ []
   -- Three blocks on a live entry.
   pub live : (strict : Bool) → HasLive (wide strict) used 6 key
-  pub three : (strict : Bool) → Granted (wide strict) used key 6 wideFirst (wideSecond ∷ wideLast ∷ []) (callOn key wideSecond ∷ callOn key wideLast ∷ [])
+  pub three : (strict : Bool)
+      → Blocks (wide strict) 6 wideFirst (wideSecond ∷ wideLast ∷ [])
+      × Granted (wide strict) used key wideFirst (wideSecond ∷ wideLast ∷ []) (callOn key wideSecond ∷ callOn key wideLast ∷ [])
 
 -- ---- The shams: any handler of these four kinds, in the mode that `strict` says, breaks demand 3
 

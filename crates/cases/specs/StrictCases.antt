@@ -11,13 +11,16 @@ use Rattle.block_state.specs.Step.{bytesFrom}
 use Rattle.demands.specs.Demand3.{block}
 use Rattle.cases.specs.Cases.{Row, answers, number, step}
 
--- 32 bytes are assembled, and the kept exponent is 0 (size 16).
+-- 32 bytes are assembled, and the kept exponent is 0 (size 16), or 1 (size 32).
 abbrev pub kept : BlockState
 kept = withAssembled nothing (assembly 32 0)
 
+abbrev pub keptLarger : BlockState
+keptLarger = withAssembled nothing (assembly 32 1)
+
 abbrev pub strictCases : List Row
 strictCases =
-    -- L 32 kept at size 16, num 1 of size 32: it starts at L, but has another exponent. Refusal 9; plain mode takes it.
+    -- L 32 kept at size 16, num 1 of size 32: it starts at L, but its exponent rises. Refusal 9; plain mode takes it.
     answers (step true kept (replicate 64 1) (0x19 ∷ []) (replicate 32 2) .answer) (Refused 9)
     ∷ answers (step false kept (replicate 64 1) (0x19 ∷ []) (replicate 32 2) .answer) (Continue (block 1 false 1))
     -- Num 1 of size 16: an earlier offset. Refusal 9; plain mode takes it.
@@ -25,6 +28,18 @@ strictCases =
     ∷ answers (step false kept (replicate 64 1) (0x18 ∷ []) (replicate 16 2) .answer) (Continue (block 1 false 0))
     -- Num 2 of size 16: the next. Taken.
     ∷ answers (step true kept (replicate 64 1) (0x28 ∷ []) (replicate 16 2) .answer) (Continue (block 2 false 0))
+    -- L 32 kept at size 32, num 2 of size 16: it starts at L, and its exponent falls. Taken, and its exponent is the one kept then.
+    ∷ answers (step true keptLarger (replicate 64 1) (0x28 ∷ []) (replicate 16 2) .answer) (Continue (block 2 false 0))
+    ∷ number (step true keptLarger (replicate 64 1) (0x28 ∷ []) (replicate 16 2) .state .assembled .exponent) 0
+    -- Num 1 of size 16, which follows by its number alone: it falls, but starts at 16. Refusal 9.
+    ∷ answers (step true keptLarger (replicate 64 1) (0x18 ∷ []) (replicate 16 2) .answer) (Refused 9)
+    -- The last block may be of a smaller size, and may be empty.
+    ∷ answers (step true keptLarger (replicate 64 1) (0x20 ∷ []) (replicate 4 2) .answer) (Handed (block 2 false 0) (bytesFrom 0 36))
+    ∷ answers (step true keptLarger (replicate 64 1) (0x20 ∷ []) [] .answer) (Handed (block 2 false 0) (bytesFrom 0 32))
+    -- Num 0 starts afresh, with a larger size than the kept one or a smaller.
+    ∷ answers (step true kept (replicate 64 1) (0x09 ∷ []) (replicate 32 2) .answer) (Continue (block 0 false 1))
+    ∷ number (step true kept (replicate 64 1) (0x09 ∷ []) (replicate 32 2) .state .assembled .exponent) 1
+    ∷ answers (step true keptLarger (replicate 64 1) [] (replicate 4 2) .answer) (Handed (block 0 false 0) (bytesFrom 0 4))
     -- Exponent 7 with a short unmarked payload, num 0. Refusal 10; plain mode takes it.
     ∷ answers (step true nothing (replicate 64 1) (0x07 ∷ []) (replicate 4 2) .answer) (Refused 10)
     ∷ answers (step false nothing (replicate 64 1) (0x07 ∷ []) (replicate 4 2) .answer) (Handed (block 0 false 6) (bytesFrom 0 4))

@@ -49,5 +49,5 @@ runs-are-calls c w (q ∷ calls) (d ∷ results) r =
 
 pub runs-demand3 : Demand3OfRuns
 unfolding Demand3OfRuns RunsAreCalls Demand3
-runs-demand3 c w k x first rest later results g r =
-    rw (runs-are-calls c w (callOn k first ∷ later) results r .0) (demand3 c w k x first rest later g)
+runs-demand3 c w k x first rest later results b g r =
+    rw (runs-are-calls c w (callOn k first ∷ later) results r .0) (demand3 c w k x first rest later b g)

@@ -1,10 +1,11 @@
 -- The client's next block at its entry: what one step leaves and answers, exactly, for every size and in either mode. It speaks of offsets: where the block starts,
 -- and how much is assembled. Assumes nothing.
-use Prim.Native.Nat.{ℕ, _+_, _≤_}
+use Prim.Native.Nat.{ℕ, _+_, _/_, _≤_, _<_}
 use mathlib.Core.Bool.{Bool, true, false, _&&_}
 use mathlib.Core.Path.{_≡_, refl, sym, _∙_, ap}
 use mathlib.Core.Logic.{inl, inr}
 use mathlib.Core.List.{List, [], _++_}
+use native.Mathlib.Nat.{zero-div}
 use native.Mathlib.Omega.{arith}
 use lib.ListN.{length, take, length-append}
 use borrow.Author.Tests.{le-ltb, ne-eqb}
@@ -30,6 +31,7 @@ use Rattle.block_state.specs.State.{assembly, withAssembled, withRecorded}
 use Rattle.block_state.specs.Step.{left, bytesFrom}
 use Rattle.request_block1.specs.Block1.{badForm, notNext, lengthMet}
 use Rattle.request_step.specs.Step.{stepRequest}
+use Rattle.pairing.specs.Pairing.{roomOf, granted, Unmakeable}
 use Rattle.pairing.proofs.Pairing.{pairing}
 use Rattle.one_call.specs.Agreed.{requestAgrees}
 use Rattle.one_call.specs.Strict.{BadlyFormed}
@@ -43,37 +45,46 @@ use Rattle.demands.specs.Demand3.{block, Fills}
 abbrev pub unmarked : BlockValue → BlockValue
 unmarked b = block (b .num) false (b .«size_exponent»)
 
+pub fills-most : (more : Bool) (p size : ℕ) → Fills more p size → p ≤ size
+fills-most true p size e = omega arith
+fills-most false p size h = h
+
+-- it is well formed, and a reply was agreed on
 pub record OneBlock (c : Config) (b : BlockValue) (r : Request) : Type 0 where
   pub size : b .«size_exponent» ≤ 6
-  pub count : b .num ≤ numLimit (c .strict)
   pub numbered : requestBlock c (r .block1) ≡ Given b
   pub full : Fills (b .more) (length (r .payload)) (blockSize b)
   pub alone : requestBlock c (r .block2) ≡ Absent
-  pub room : r .bare + 12 + blockSize b ≤ c .limit
+  pub short : r .bare ≤ c .limit
+  pub reply : BlockValue
+  pub agreed : requestAgrees c r ≡ Block reply
 
-module _ (c : Config) (b : BlockValue) (r : Request) (one : OneBlock c b r) where
-  pub fills-most : length (r .payload) ≤ blockSize b
-  fills-most = most (b .more) (one .full)
-    where
-      most : (m : Bool) → Fills m (length (r .payload)) (blockSize b) → length (r .payload) ≤ blockSize b
-      most true e = omega arith
-      most false h = h
+pub form-ok : (c : Config) (b : BlockValue) (r : Request) → OneBlock c b r → (c .strict && badForm b (length (r .payload))) ≡ false
+form-ok c b r one = and-none (c .strict) _ (bad-not b (length (r .payload)) well)
+  where
+    well : BadlyFormed b (length (r .payload)) → ⊥
+    well (inl seven) = omega (arith, one .size)
+    well (inr (inl long)) = omega (arith, fills-most (b .more) _ _ (one .full))
+    well (inr (inr short)) = short .1 (rw (short .0) at (one .full))
 
-  pub form-ok : (c .strict && badForm b (length (r .payload))) ≡ false
-  form-ok = and-none (c .strict) _ (bad-not b (length (r .payload)) well)
-    where
-      well : BadlyFormed b (length (r .payload)) → ⊥
-      well (inl seven) = omega (arith, one .size)
-      well (inr (inl long)) = omega (arith, fills-most)
-      well (inr (inr short)) = short .1 (rw (short .0) at (one .full))
-
+module _ (c : Config) (b : BlockValue) (r : Request) (numbered : requestBlock c (r .block1) ≡ Given b) (size : b .«size_exponent» ≤ 6) where
   -- a block that is left room comes out of the negotiation as it was asked, with no more, since its payload is no longer than its size
-  pub agreed : requestAgrees c r ≡ Block (unmarked b)
-  agreed =
+  pub agreed-asked : b .num ≤ numLimit (c .strict) → length (r .payload) ≤ blockSize b → r .bare + 12 + blockSize b ≤ c .limit → requestAgrees c r ≡ Block (unmarked b)
+  agreed-asked count most room =
       let p : ℕ = length (r .payload) in
-      rw (one .numbered)
-      (pairing .asked c b (r .bare) p (one .room) (one .count) (omega (arith, one .size))
-      ∙ rw (le-ltb (blockStart b + blockSize b) p (omega (arith, fills-most))))
+      rw numbered (pairing .asked c b (r .bare) p room count (omega arith) ∙ rw (le-ltb (blockStart b + blockSize b) p (omega arith)))
+
+  -- block 0 comes out of it, smaller or not, where there is room for a byte
+  pub agreed-first : b .num ≡ 0 → r .bare + 12 < c .limit → (reply : BlockValue) × (requestAgrees c r ≡ Block reply)
+  agreed-first first room = rw numbered (pairing .made c (Given b) (r .bare) (length (r .payload)) (omega arith) tt makeable)
+    where
+      makeable : Unmakeable c (Given b) (roomOf c (r .bare)) → ⊥
+      makeable (inl none) = omega (arith, size-least (b .«size_exponent»))
+      makeable (inr (inl large)) = omega (arith, size-most (b .«size_exponent»))
+      makeable (inr (inr far)) =
+          let start : blockStart b ≡ 0 = first-starts b first in
+          let zero : blockStart b / granted (Given b) (roomOf c (r .bare)) ≡ 0 = rw start (zero-div _) in
+          omega arith
 
 -- ---- an upload under way
 
@@ -94,7 +105,7 @@ meets-first c a u b first none =
       held = refl;
     }
 
--- The blocks so far sent these bytes: they are what is assembled, and block b is next, from where they end and with the exponent that was kept.
+-- The blocks so far sent these bytes: they are what is assembled, and block b is next, from where they end and no larger than the last one taken.
 pub record UnderWay (a : Assembled) (u : List ℕ) (bytes : List ℕ) (b : BlockValue) : Type 0 where
   pub len : a .len ≡ length bytes
   pub held : take (a .len) u ≡ bytes
@@ -139,19 +150,19 @@ module _ (c : Config) (home away : ℕ) (s : BlockState) (u : List ℕ) (r : Req
       ∙ ap Body n)
 
   pub own-more : b .more ≡ true
-      → stepRequest c home away s u r ≡ left (withAssembled s (assembly (length joins) (b .«size_exponent»))) (patch u 0 joins) (Continue (unmarked b))
+      → stepRequest c home away s u r ≡ left (withAssembled s (assembly (length joins) (b .«size_exponent»))) (patch u 0 joins) (Continue (one .reply))
   own-more =
-      step-more c home away s u r b (unmarked b) (one .numbered) (agreed c b r one) (form-ok c b r one) (meets .passes) (length bytes) (meets .from)
+      step-more c home away s u r b (one .reply) (one .numbered) (one .agreed) (form-ok c b r one) (meets .passes) (length bytes) (meets .from)
       (length joins) (patch u 0 joins) body piece
 
   pub own-last : b .more ≡ false
       → stepRequest c home away s u r
-      ≡ left (withRecorded (withAssembled s (assembly 0 0)) Absent) (patch u 0 joins) (Handed (unmarked b) (bytesFrom home (length joins)))
+      ≡ left (withRecorded (withAssembled s (assembly 0 0)) Absent) (patch u 0 joins) (Handed (one .reply) (bytesFrom home (length joins)))
   own-last last =
-      step-last c home away s u r b (unmarked b) (one .numbered) (agreed c b r one) (form-ok c b r one) (meets .passes) (length bytes) (meets .from)
+      step-last c home away s u r b (one .reply) (one .numbered) (one .agreed) (form-ok c b r one) (meets .passes) (length bytes) (meets .from)
       (length joins) (patch u 0 joins) body piece last (one .alone)
 
-  -- after a marked block, the upload is under way to any block that starts where this one ends, with its exponent
+  -- after a marked block, the upload is under way to any block that starts where this one ends and is no larger
   pub under-way : b .more ≡ true → (n : BlockValue) → NextAt (blockStart b + length (r .payload)) (b .«size_exponent») n
       → UnderWay (assembly (length joins) (b .«size_exponent»)) (patch u 0 joins) joins n
   under-way more n next =

@@ -1,5 +1,5 @@
 -- A push, block by block: where it stands once its last block was taken, with any calls for other keys between. Assumes nothing.
-use Prim.Native.Nat.{ℕ, suc, _+_, _-_, _*_, _≤_, _<_}
+use Prim.Native.Nat.{ℕ, zero, suc, _+_, _-_, _*_, _≤_, _<_}
 use mathlib.Core.Bool.{Bool, true, false}
 use mathlib.Core.Path.{_≡_, refl, sym, _∙_, ap, subst}
 use mathlib.Core.Logic.{_⊎_, inl, inr}
@@ -16,9 +16,8 @@ use Rattle.block_value.specs.Value.{sizeOf, blockStart}
 use Rattle.block_value.specs.declared.BlockValue.{BlockValue}
 use Rattle.block_value.proofs.Laws.{size-most}
 use Rattle.negotiation.specs.Negotiation.{requestBlock}
-use Rattle.negotiation.specs.declared.MaybeBlock.the-variants.{Absent, Given}
+use Rattle.negotiation.specs.declared.MaybeBlock.the-variants.{Absent}
 use Rattle.config.specs.declared.Config.{Config}
-use Rattle.config.specs.Mode.{numLimit}
 use Rattle.config.proofs.Mode.{nums-made}
 use Rattle.block_state.specs.declared.BlockState.{BlockState}
 use Rattle.block_state.specs.Message.{Request, request, WhatBytes}
@@ -44,10 +43,11 @@ use Rattle.answer_sources.specs.Parts.{partOf}
 use Rattle.call.specs.Call.{World, Call, whatOk, call}
 use Rattle.call.proofs.Frame.{WorldFits, Took, request-took, call-fits}
 use Rattle.one_call.specs.Handler.{entryAt}
-use Rattle.one_call.proofs.Checks.{NextAt, next-same}
-use Rattle.demands.specs.Demand3.{Seen, seen, after, Sent, callOn, block, Each, Fills, joined, Prompt, AllBytes, HasLive, HasFree, NothingInPlain, Blocks, HandsOn, lastOf}
+use Rattle.one_call.proofs.Checks.{NextAt, starts-first}
+use Rattle.demands.specs.Demand3.{Seen, seen, after, Sent, callOn, block, Each, Fills, joined, Prompt, AllBytes, HasLive, HasFree, NothingInPlain, HandsOn, lastOf}
+use Rattle.demands.specs.Falling.{startOf, StartsAt, LeavesRoom, FallingBlocks}
 use Rattle.demands.specs.Clocks.{requestsOn, runOn, OwnRising}
-use Rattle.demands.proofs.OwnStep.{OneBlock, fills-most, Meets, meets-first, UnderWay, meets-next, held-after, own-more, own-last, under-way}
+use Rattle.demands.proofs.OwnStep.{unmarked, OneBlock, fills-most, agreed-asked, agreed-first, Meets, meets-first, UnderWay, meets-next, held-after, own-more, own-last, under-way}
 use Rattle.demands.proofs.Runs.{asks-own, all-front, all-behind, after-cut, seen-cut, none-seen, Cut, cut, rising-cut, after-clock}
 use Rattle.demands.proofs.Held.{Held, held-place, held-opened, held-others}
 
@@ -61,8 +61,8 @@ limit-most c h = leb-true (c .limit) 65535 (search ands)
 pub message-ok : (c : Config) (r : Request) (b : BlockValue) → configOk c ≡ true → OneBlock c b r → whatOk (request r) ≡ true
 unfolding whatOk
 message-ok c r b ok one =
-    and-both (leb (r .bare) 65535) (leb (length (r .payload)) 65535) (le-leb (r .bare) 65535 (omega (arith, one .room, limit-most c ok)))
-    (le-leb (length (r .payload)) 65535 (omega (arith, fills-most c b r one, size-most (b .«size_exponent»))))
+    and-both (leb (r .bare) 65535) (leb (length (r .payload)) 65535) (le-leb (r .bare) 65535 (omega (arith, one .short, limit-most c ok)))
+    (le-leb (length (r .payload)) 65535 (omega (arith, fills-most (b .more) _ _ (one .full), size-most (b .«size_exponent»))))
 
 -- a row with an entry that is not in use has a place for every key
 place-free : (k : Name) (l : List Entry) (i : ℕ) → length l ≡ 16 → i < 16 → at l i .used ≡ false → place k l < 16
@@ -124,7 +124,7 @@ module _ (c : Config) (w : World) (k : Name) (time : ℕ) (f : WorldFits c w) (l
       (λ n. rw (opened-new k found n))
 
   pub ready-first : (b : BlockValue) → b .num ≡ 0 → place k found < 16 → NothingInPlain c w time k → Ready c w k time [] b
-  ready-first b zero p nothing = record { fits = f; later = later; placed = p; meets = meets-first c _ _ b zero (λ plain. none-first (nothing plain) p) }
+  ready-first b first p nothing = record { fits = f; later = later; placed = p; meets = meets-first c _ _ b first (λ plain. none-first (nothing plain) p) }
 
 -- ---- a block of the client's
 
@@ -313,40 +313,23 @@ module _ (c : Config) (k : Name) (named : keyOk k ≡ true) where
   push-from [] = from-last
   push-from (t ∷ rest) = from-more t rest (push-from rest)
 
--- ---- demand 3's blocks, numbered and of one size
-
--- what is asked of them, block by block
-pub each-block : (c : Config) (x : ℕ) (first : Sent) (rest : List Sent) → Blocks c x first rest → Each (λ j more r. OneBlock c (block j more x) r) 0 first rest
-each-block c x first rest b = from 0 first rest (omega (arith, b .count, nums-made (c .strict))) (b .numbered) (b .full) (b .alone) (b .room)
-  where
-    from : (j : ℕ) (s : Sent) (rest : List Sent) → j + length rest ≤ numLimit (c .strict) → Each (λ j more r. requestBlock c (r .block1) ≡ Given (block j more x)) j s rest
-        → Each (λ j more r. Fills more (length (r .payload)) (sizeOf x)) j s rest → Each (λ j more r. requestBlock c (r .block2) ≡ Absent) j s rest
-        → Each (λ j more r. r .bare + 12 + sizeOf x ≤ c .limit) j s rest → Each (λ j more r. OneBlock c (block j more x) r) j s rest
-    from j s [] h n f a r = record { size = b .size; count = omega arith; numbered = n; full = f; alone = a; room = r }
-    from j s (t ∷ rest) h n f a r =
-        (record { size = b .size; count = omega arith; numbered = n .0; full = f .0; alone = a .0; room = r .0 }, from (suc j) t rest (omega arith) (n .1) (f .1) (a .1) (r .1))
+-- ---- the client's blocks, whose sizes never rise
 
 -- another follows
 abbrev marked : List Sent → Bool
 marked [] = false
 marked (t ∷ rest) = true
 
--- the first block's value, with these behind it
-abbrev pub firstOf : ℕ → List Sent → BlockValue
-firstOf x rest = block 0 (marked rest) x
+-- what holds of each block whose place in the list is below n, if another thing does
+pub each-map : (P Q : ℕ → Bool → Request → Type 0) (n : ℕ) → ((j : ℕ) (more : Bool) (r : Request) → j < n → P j more r → Q j more r)
+    → (j : ℕ) (s : Sent) (rest : List Sent) → j + length rest < n → Each P j s rest → Each Q j s rest
+each-map P Q n f j s [] h e = f j false (s .message) (omega arith) e
+each-map P Q n f j s (t ∷ rest) h e = (f j true (s .message) (omega arith) (e .0), each-map P Q n f (suc j) t rest (omega arith) (e .1))
 
--- block j ends at j + 1 times the size, where block j + 1 starts: here alone a count is taken times the size
-follow-on : (c : Config) (x j : ℕ) (s : Sent) (rest : List Sent) → Each (λ j more r. OneBlock c (block j more x) r) j s rest → Follow c (block j (marked rest) x) s rest
-follow-on c x j s [] each = (each, refl)
-follow-on c x j s (t ∷ rest) each =
-    let next : BlockValue = block (suc j) (marked rest) x in
-    let ends : blockStart next ≡ j * sizeOf x + length (s .message .payload) = omega (arith, each .0 .full) in
-    (each .0, refl, next, next-same _ next ends, follow-on c x (suc j) t rest (each .1))
+pub each-first : (P : ℕ → Bool → Request → Type 0) (j : ℕ) (s : Sent) (rest : List Sent) → Each P j s rest → P j (marked rest) (s .message)
+each-first P j s [] e = e
+each-first P j s (t ∷ rest) e = e .0
 
-pub blocks-follow : (c : Config) (x : ℕ) (first : Sent) (rest : List Sent) → Blocks c x first rest → Follow c (firstOf x rest) first rest
-blocks-follow c x first rest b = follow-on c x 0 first rest (each-block c x first rest b)
-
--- and of the last
 pub each-last : (P : ℕ → Bool → Request → Type 0) (j : ℕ) (s : Sent) (rest : List Sent) → Each P j s rest → P (j + length rest) false (lastOf s rest .message)
 each-last P j s [] e =
     let z : j + 0 ≡ j = omega arith in
@@ -354,3 +337,49 @@ each-last P j s [] e =
 each-last P j s (t ∷ rest) e =
     let z : j + suc (length rest) ≡ suc j + length rest = omega arith in
     rw z (each-last P (suc j) t rest (e .1))
+
+-- block j, with the num that takes it to its start
+abbrev pub BlockAt : Config → (ℕ → ℕ) → ℕ → Bool → Request → Type 0
+BlockAt c x j more r = (num : ℕ) × (num * sizeOf (x j) ≡ startOf x j) × OneBlock c (block num more (x j)) r
+
+block-at : (c : Config) (x : ℕ → ℕ) (j : ℕ) (more : Bool) (r : Request) → x j ≤ 6 → StartsAt c (startOf x j) (x j) more r
+    → Fills more (length (r .payload)) (sizeOf (x j)) → requestBlock c (r .block2) ≡ Absent → LeavesRoom c j (sizeOf (x j)) (r .bare) → BlockAt c x j more r
+block-at c x zero more r six n full alone room =
+    let b : BlockValue = block (n .num) more (x 0) in
+    let a = agreed-first c b r (n .reads) six (starts-first b (n .starts)) room in
+    (n .num, n .starts, record { size = six; numbered = n .reads; full = full; alone = alone; short = omega arith; reply = a .0; agreed = a .1 })
+block-at c x (suc j) more r six n full alone room =
+    let b : BlockValue = block (n .num) more (x (suc j)) in
+    let a = agreed-asked c b r (n .reads) six (omega (arith, n .count, nums-made (c .strict))) (fills-most more _ _ full) room in
+    (n .num, n .starts, record { size = six; numbered = n .reads; full = full; alone = alone; short = omega arith; reply = unmarked b; agreed = a })
+
+-- what is asked of them, block by block
+pub each-block : (c : Config) (x : ℕ → ℕ) (first : Sent) (rest : List Sent) → FallingBlocks c x first rest → Each (BlockAt c x) 0 first rest
+each-block c x first rest b = from 0 first rest (b .size) (λ i l h. b .falls i (omega arith)) (b .numbered) (b .full) (b .alone) (b .room)
+  where
+    from : (j : ℕ) (s : Sent) (rest : List Sent) → x j ≤ 6 → ((i : ℕ) → j ≤ i → i < j + length rest → x (suc i) ≤ x i)
+        → Each (λ j more r. StartsAt c (startOf x j) (x j) more r) j s rest → Each (λ j more r. Fills more (length (r .payload)) (sizeOf (x j))) j s rest
+        → Each (λ j more r. requestBlock c (r .block2) ≡ Absent) j s rest → Each (λ j more r. LeavesRoom c j (sizeOf (x j)) (r .bare)) j s rest → Each (BlockAt c x) j s rest
+    from j s [] six falls n f a r = block-at c x j false (s .message) six n f a r
+    from j s (t ∷ rest) six falls n f a r =
+        (block-at c x j true (s .message) six (n .0) (f .0) (a .0) (r .0),
+        from (suc j) t rest (omega (arith, falls j (omega arith) (omega arith))) (λ i l h. falls i (omega arith) (omega arith)) (n .1) (f .1) (a .1) (r .1))
+
+-- each goes on where the one before it ends
+follow-on : (c : Config) (x : ℕ → ℕ) (j : ℕ) (s : Sent) (rest : List Sent) → ((i : ℕ) → j ≤ i → i < j + length rest → x (suc i) ≤ x i)
+    → (each : Each (BlockAt c x) j s rest) → Follow c (block (each-first (BlockAt c x) j s rest each .0) (marked rest) (x j)) s rest
+unfolding each-first
+follow-on c x j s [] falls each = (each .2, refl)
+follow-on c x j s (t ∷ rest) falls each =
+    let next = each-first (BlockAt c x) (suc j) t rest (each .1) in
+    let ends : next .0 * sizeOf (x (suc j)) ≡ each .0 .0 * sizeOf (x j) + length (s .message .payload) = omega (arith, next .1, each .0 .1, each .0 .2 .full) in
+    (each .0 .2, refl, block (next .0) (marked rest) (x (suc j)), (ends, falls j (omega arith) (omega arith)),
+    follow-on c x (suc j) t rest (λ i l h. falls i (omega arith) (omega arith)) (each .1))
+
+pub blocks-follow : (c : Config) (x : ℕ → ℕ) (first : Sent) (rest : List Sent) → FallingBlocks c x first rest
+    → (b : BlockValue) × (b .num ≡ 0) × Follow c b first rest
+blocks-follow c x first rest b =
+    let each = each-block c x first rest b in
+    let head = each-first (BlockAt c x) 0 first rest each in
+    let value : BlockValue = block (head .0) (marked rest) (x 0) in
+    (value, starts-first value (head .1), follow-on c x 0 first rest (λ i l h. b .falls i (omega arith)) each)

@@ -19,7 +19,7 @@ use Rattle.call.specs.Contract.{world, requestCall, responseCall, Meant}
 use Rattle.block_handler.proofs.intercept_request
 use Rattle.block_handler.proofs.intercept_response
 use Rattle.one_call.specs.Handler.{Handler}
-use Rattle.demands.specs.Demand3.{Seen, seen, run, after, seenOn, Sent, callOn, joined, Granted, HandsOn}
+use Rattle.demands.specs.Demand3.{Seen, seen, run, after, seenOn, Sent, callOn, joined, Blocks, Granted, HandsOn}
 
 -- ---- What the compiled calls ensure, and that they ask nothing
 
@@ -103,5 +103,5 @@ RunsAreCalls =
 unfoldable pub Demand3OfRuns : Type 0
 Demand3OfRuns =
     (c : Config) (w : World) (k : Name) (x : ℕ) (first : Sent) (rest : List Sent) (later : List Call) (results : List Done)
-    → Granted c w k x first rest later → Ran c w (callOn k first ∷ later) results
+    → Blocks c x first rest → Granted c w k first rest later → Ran c w (callOn k first ∷ later) results
     → HandsOn (joined first rest) (seenOn k (seenOf (callOn k first ∷ later) results))

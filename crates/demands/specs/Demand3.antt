@@ -164,7 +164,7 @@ pub record Blocks (c : Config) (x : ℕ) (first : Sent) (rest : List Sent) : Typ
 
 -- The run is block `first` and then the calls `later`: the rest of the client's blocks, and calls for other keys "between them" (or after the
 -- last). Those are any requests and responses at all, with any numbers and bytes, also such as are refused or start other uploads.
-pub record Push (c : Config) (w : World) (k : Name) (x : ℕ) (first : Sent) (rest : List Sent) (later : List Call) : Type 0 where
+pub record Calls (c : Config) (w : World) (k : Name) (first : Sent) (later : List Call) : Type 0 where
   -- Document 01: "the first table and the key's own calls keep to this document's limits": no refusal 1 for the first block, so that the
   -- configuration, both memories, the key and the table are within the limits. (The later blocks have the same key. That their lengths are
   -- within the limits is not assumed: it follows from `room` and `full`, since T is at most 65,535.)
@@ -172,15 +172,14 @@ pub record Push (c : Config) (w : World) (k : Name) (x : ℕ) (first : Sent) (re
   -- Granted by what a table and bytes are: a table has sixteen entries, and an option's bytes are below 256.
   pub sixteen : length (w .table .entries) ≡ 16
   pub bytes : AllBytes (callOn k first ∷ later)
-  pub blocks : Blocks c x first rest
 
--- The whole of it. "In either mode": of the two modes' differences only three come in: `nothing`, how many blocks there may be, and what an option is read as.
-pub record Granted (c : Config) (w : World) (k : Name) (x : ℕ) (first : Sent) (rest : List Sent) (later : List Call) : Type 0 where
+-- All but the blocks. "In either mode": of the two modes' differences only three come in: `nothing`, how many blocks there may be, and what an option is read as.
+pub record Granted (c : Config) (w : World) (k : Name) (first : Sent) (rest : List Sent) (later : List Call) : Type 0 where
   -- "Take a key with a live entry or a free one to take ..
   pub entry : HasLive c w (first .time) k ⊎ HasFree c w (first .time)
   -- .. and, in plain mode, nothing assembled."
   pub nothing : NothingInPlain c w (first .time) k
-  pub push : Push c w k x first rest later
+  pub calls : Calls c w k first later
   -- "With any calls for other keys between them and none other for this one".
   pub own : callsOn k later ≡ map (callOn k) rest
   -- "The clock never goes back": the first block is not before the recorded clock, nor any call before the one that went ahead of it.
@@ -196,5 +195,5 @@ HandsOn bytes (s ∷ t ∷ rest) = (said (s .answer) .kind ≡ continue) × Hand
 
 unfoldable pub Demand3 : Handler → Type 0
 Demand3 h =
-    (c : Config) (w : World) (k : Name) (x : ℕ) (first : Sent) (rest : List Sent) (later : List Call) → Granted c w k x first rest later
+    (c : Config) (w : World) (k : Name) (x : ℕ) (first : Sent) (rest : List Sent) (later : List Call) → Blocks c x first rest → Granted c w k first rest later
     → HandsOn (joined first rest) (seenOn k (run h c w (callOn k first ∷ later)))

@@ -45,9 +45,9 @@ hands-on-in-C bytes (s ∷ t ∷ l) h = (ap kindNumber (h .0), hands-on-in-C byt
 
 pub demand3-in-C : Demand3InC
 unfolding Demand3InC RunsAreCallsInC Demand3Own
-demand3-in-C c w k x first rest later results g r =
+demand3-in-C c w k x first rest later results b g r =
     rw (runs-are-calls-in-C c w (callOn k first ∷ later) results r .0, seen-on-in-C c k (callOn k first ∷ later) w)
-    (hands-on-in-C (joined first rest) (runOn k call c w (callOn k first ∷ later)) (demand3-own c w k x first rest later g))
+    (hands-on-in-C (joined first rest) (runOn k call c w (callOn k first ∷ later)) (demand3-own c w k x first rest later b g))
 
 pub determined-in-C : DeterminedInC
 unfolding DeterminedInC

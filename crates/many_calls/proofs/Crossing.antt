@@ -26,7 +26,7 @@ use Rattle.demands.specs.Demand3.{Seen, after, Sent, callOn, joined, Rising, Al
 use Rattle.demands.specs.Clocks.{asks, requestsOn, runOn, OwnRising}
 use Rattle.demands.proofs.Runs.{asks-own, all-front, all-behind, seen-cut, none-seen, Cut, cut, rising-cut, rising-own, fresh-entry, fresh-fits, after-fits, after-clock}
 use Rattle.demands.proofs.Held.{Held}
-use Rattle.demands.proofs.Push.{Pushed, ready-first, pass, push-from, firstOf, blocks-follow}
+use Rattle.demands.proofs.Push.{Pushed, ready-first, pass, push-from, blocks-follow}
 use Rattle.many_calls.specs.Crossing.{inForm, counts, counted, seenCounted, UncountedRefused, among, AllAmong, FromFresh, Transfer, AllProper, callsOf, HandsAll, MorningsCross}
 use Rattle.many_calls.specs.Crossing.{SixteenCross, UncountedAreRefused}
 use Rattle.many_calls.proofs.Known.{Known, opened-known, put-known}
@@ -101,10 +101,10 @@ module _ (c : Config) (k : Name) (keys : List Name) (few : length keys ≤ 16) w
       let idle : Idle k v = idle-others c k (z .before) w (g .fits) ab₀ (z .none) (g .idle) in
       let later : v .table .clock ≤ s .time = after-clock c (s .time) (z .before) w (r .0) (r .1) in
       let placed = has-place c v keys fits over k (s .time) few (all-behind _ (z .before) parts aa .0) in
-      let ready = ready-first c v k (s .time) fits later (firstOf (p .exponent) (p .rest)) refl placed (λ plain i b h l. idle i b h) in
-      let named : keyOk k ≡ true = and-left (keyOk k) (whatOk (request (s .message))) (form .0) in
       let follow = blocks-follow c (p .exponent) s (p .rest) b in
-      let n = push-from c k named (p .rest) v (firstOf (p .exponent) (p .rest)) [] s (z .behind) (callsOf k pushes) ready follow (b .prompt) (b .fits)
+      let ready = ready-first c v k (s .time) fits later (follow .0) (follow .1) placed (λ plain i b h l. idle i b h) in
+      let named : keyOk k ≡ true = and-left (keyOk k) (whatOk (request (s .message))) (form .0) in
+      let n = push-from c k named (p .rest) v (follow .0) [] s (z .behind) (callsOf k pushes) ready (follow .2) (b .prompt) (b .fits)
       (all-behind _ (z .before) parts ab) (r .2) (z .left) in
       subst (Pushed c w k (lastOf s (p .rest) .time) (length (s ∷ p .rest)) (joined s (p .rest)) (callsOf k pushes)) (sym (z .is))
       (pass c w k (lastOf s (p .rest) .time) (length (s ∷ p .rest)) (joined s (p .rest)) (callsOf k pushes) parts (z .before) (z .none) n)

@@ -1,7 +1,8 @@
 -- THE LAST BLOCK SENT TWICE, in both modes. Assumes nothing.
-use Prim.Native.Nat.{ℕ, suc, _+_, _-_, _*_, _≤_, _<_}
+use Prim.Native.Nat.{ℕ, zero, suc, _+_, _-_, _≤_, _<_}
 use mathlib.Core.Bool.{true, false}
 use mathlib.Core.Path.{_≡_, refl, sym, _∙_, ap, subst}
+use mathlib.Core.Logic.{inl}
 use mathlib.Core.List.{List, [], _∷_, _++_, map, append-nil}
 use native.Mathlib.Nat.{zero-add}
 use native.Mathlib.Omega.{arith}
@@ -15,6 +16,7 @@ use Rattle.splicing.specs.declared.Splice.the-variants.{Body}
 use Rattle.splicing.proofs.Splicing as splicing
 use Rattle.block_value.specs.Value.{sizeOf, blockSize, blockStart}
 use Rattle.block_value.specs.declared.BlockValue.{BlockValue}
+use Rattle.block_value.proofs.Laws.{size-least}
 use Rattle.negotiation.specs.declared.MaybeBlock.the-variants.{Absent}
 use Rattle.config.specs.declared.Config.{Config}
 use Rattle.block_state.specs.declared.BlockState.{BlockState}
@@ -33,15 +35,16 @@ use Rattle.call.specs.Call.{World, Call, whatOk, call}
 use Rattle.call.proofs.Frame.{WorldFits, fits-limits, key-within, request-took, call-fits}
 use Rattle.one_call.specs.Handler.{entryAt}
 use Rattle.one_call.specs.Touch.{Placed, RefusesTo}
-use Rattle.one_call.proofs.Checks.{misplaced-is, starts-first, meets-all}
+use Rattle.one_call.proofs.Checks.{misplaced-is, first-starts, starts-first, meets-all}
 use Rattle.one_call.proofs.Step.{step-astray, step-unspliced, step-last}
 use Rattle.one_call.proofs.Touch.{refused-touches}
 use Rattle.demands.specs.Demand3.{after, Sent, callOn, block, Each, Fills, joined, All, AllBytes, lastOf}
+use Rattle.demands.specs.Falling.{startOf}
 use Rattle.demands.specs.Clocks.{requestsOn}
-use Rattle.demands.proofs.OwnStep.{unmarked, OneBlock, form-ok, agreed, meets-first, held-after, own-last}
+use Rattle.demands.proofs.OwnStep.{OneBlock, form-ok, meets-first, held-after, own-last}
 use Rattle.demands.proofs.Runs.{asks-own, all-behind, after-cut, cut, after-clock}
 use Rattle.demands.proofs.Held.{Held, held-place, held-opened, held-others}
-use Rattle.demands.proofs.Push.{message-ok, shown-part, Pushed, each-block, each-last}
+use Rattle.demands.proofs.Push.{message-ok, shown-part, Pushed, BlockAt, each-block, each-last}
 use Rattle.demands.proofs.Demand3.{pushed}
 use Rattle.many_calls.specs.Twice.{HandsTo, SentAgain, Twice}
 
@@ -57,8 +60,8 @@ module _ (c : Config) (home away : ℕ) (s : BlockState) (u : List ℕ) (r : Req
   -- strict, not block 0: it is not the next
   again-strict : c .strict ≡ true → (b .num ≡ 0 → ⊥) → stepRequest c home away s u r ≡ left s u (Refused 9)
   again-strict strict other =
-      let astray : notNext (s .assembled) b ≡ true = rw none (misplaced-is (assembly 0 0) b (other, λ n. other (starts-first b (n .0)))) in
-      step-astray c home away s u r b (unmarked b) (one .numbered) (agreed c b r one) (form-ok c b r one) (rw (strict, astray))
+      let astray : notNext (s .assembled) b ≡ true = rw none (misplaced-is (assembly 0 0) b (other, inl (λ start. other (starts-first b start)))) in
+      step-astray c home away s u r b (one .reply) (one .numbered) (one .agreed) (form-ok c b r one) (rw (strict, astray))
 
   module _ (plain : c .strict ≡ false) where
     met : lengthMet (c .strict) (s .assembled) b ≡ 0
@@ -66,7 +69,7 @@ module _ (c : Config) (home away : ℕ) (s : BlockState) (u : List ℕ) (r : Req
 
     again-far : 16384 < start + blockSize b → stepRequest c home away s u r ≡ left s u (Refused 6)
     again-far far =
-        step-unspliced c home away s u r b (unmarked b) (one .numbered) (agreed c b r one) (form-ok c b r one) (rw plain) 0 met 6
+        step-unspliced c home away s u r b (one .reply) (one .numbered) (one .agreed) (form-ok c b r one) (rw plain) 0 met 6
         (splicing.too-far (c .upload) 0 start (blockSize b) p (omega arith))
 
     abbrev zeros : List ℕ
@@ -80,21 +83,29 @@ module _ (c : Config) (home away : ℕ) (s : BlockState) (u : List ℕ) (r : Req
 
     again-zeros : b .more ≡ false → start + blockSize b ≤ 16384 → start + p ≤ c .upload
         → stepRequest c home away s u r
-        ≡ left (withRecorded (withAssembled s (assembly 0 0)) Absent) (patch u 0 zeros) (Handed (unmarked b) (bytesFrom home (length zeros)))
+        ≡ left (withRecorded (withAssembled s (assembly 0 0)) Absent) (patch u 0 zeros) (Handed (one .reply) (bytesFrom home (length zeros)))
     again-zeros last near fits =
         let n : splicedLength 0 start (blockSize b) p ≡ length zeros =
         rw (length-append (replicate start 0) (r .payload), length-replicate {A = ℕ} start 0) (omega arith) in
-        step-last c home away s u r b (unmarked b) (one .numbered) (agreed c b r one) (form-ok c b r one) (rw plain) 0 met (length zeros) (patch u 0 zeros)
+        step-last c home away s u r b (one .reply) (one .numbered) (one .agreed) (form-ok c b r one) (rw plain) 0 met (length zeros) (patch u 0 zeros)
         (splicing.taken (c .upload) 0 start (blockSize b) p (omega arith) (omega arith) ∙ ap Body n) with-zeros last (one .alone)
 
 -- ---- the call that brings it again
 
-joined-length : (x j : ℕ) (s : Sent) (rest : List Sent) → Each (λ j more r. Fills more (length (r .payload)) (sizeOf x)) j s rest
-    → length (joined s rest) ≡ length rest * sizeOf x + length (lastOf s rest .message .payload)
-joined-length x j s [] e = omega arith
+joined-length : (x : ℕ → ℕ) (j : ℕ) (s : Sent) (rest : List Sent) → Each (λ j more r. Fills more (length (r .payload)) (sizeOf (x j))) j s rest
+    → startOf x j + length (joined s rest) ≡ startOf x (j + length rest) + length (lastOf s rest .message .payload)
+joined-length x j s [] e =
+    let z : j + 0 ≡ j = omega arith in
+    rw z
 joined-length x j s (t ∷ rest) e =
+    let z : j + suc (length rest) ≡ suc j + length rest = omega arith in
     let n : length (joined s (t ∷ rest)) ≡ length (s .message .payload) + length (joined t rest) = length-append (s .message .payload) (joined t rest) in
-    omega (arith, joined-length x (suc j) t rest (e .1), e .0)
+    rw z (omega (arith, joined-length x (suc j) t rest (e .1), e .0))
+
+-- a block with another before it starts past 0
+start-least : (x : ℕ → ℕ) (j : ℕ) → 1 ≤ j → 16 ≤ startOf x j
+start-least x zero h = absurd (omega arith)
+start-least x (suc j) h = omega (arith, size-least (x j))
 
 -- the last block's options are bytes, since all calls' are
 module _ (k : Name) where
@@ -105,7 +116,7 @@ module _ (k : Name) where
       let z = cut k calls (callOn k t) (map (callOn k) rest) own in
       last-bytes t rest (z .behind) (z .left) (all-behind _ (z .before) (callOn k t ∷ z .behind) (subst AllBytes (z .is) (ab .1)))
 
-module _ (c : Config) (w : World) (k : Name) (x : ℕ) (first : Sent) (rest : List Sent) (later : List Call) (again : Sent)
+module _ (c : Config) (w : World) (k : Name) (x : ℕ → ℕ) (first : Sent) (rest : List Sent) (later : List Call) (again : Sent)
     (a : SentAgain c w k x first rest later again) where
   abbrev then : World
   then = after call c w (callOn k first ∷ later)
@@ -132,16 +143,16 @@ module _ (c : Config) (w : World) (k : Name) (x : ℕ) (first : Sent) (rest : Li
   j = length rest
 
   abbrev ended : Pushed c w k (last .time) (length (first ∷ rest)) (joined first rest) [] (callOn k first ∷ later)
-  ended = pushed c w k x first rest later (a .granted)
+  ended = pushed c w k x first rest later (a .blocks) (a .granted)
 
   named : keyOk k ≡ true
-  named = key-within c w (callOn k first) (a .granted .push .limits)
+  named = key-within c w (callOn k first) (a .granted .calls .limits)
 
   -- the calls behind the last block are other keys', and leave its entry as it was
   settled : Held c then k (ended .slot) (last .time) × (entryAt then (ended .slot) .state .assembled ≡ assembly 0 0)
   settled =
       let nl = all-behind _ (ended .front) (ended .behind) (subst (All (λ q. q .time ≤ again .time)) (ended .is) (a .clock)) in
-      let ab = all-behind _ (ended .front) (ended .behind) (subst AllBytes (ended .is) (a .granted .push .bytes)) in
+      let ab = all-behind _ (ended .front) (ended .behind) (subst AllBytes (ended .is) (a .granted .calls .bytes)) in
       let u = held-others c k (ended .slot) (last .time) (again .time) (a .soon) (ended .behind) (after call c w (ended .front)) (ended .settled) ab nl (ended .own) in
       subst (λ (v : World). Held c v k (ended .slot) (last .time) × (entryAt v (ended .slot) .state .assembled ≡ assembly 0 0))
       (sym (after-cut call c (ended .front) (ended .behind) w) ∙ ap (after call c w) (sym (ended .is)))
@@ -159,19 +170,28 @@ module _ (c : Config) (w : World) (k : Name) (x : ℕ) (first : Sent) (rest : Li
   none : from .assembled ≡ assembly 0 0
   none = ap (λ (e : Entry). e .state .assembled) (held-opened c then k (ended .slot) (last .time) (settled .0) (again .time) (a .soon)) ∙ settled .1
 
+  its : BlockAt c x j false (again .message)
+  its =
+      let z : 0 + length rest ≡ length rest = zero-add (length rest) in
+      rw (a .same) (rw z at (each-last (BlockAt c x) 0 first rest (each-block c x first rest (a .blocks))))
+
   abbrev b : BlockValue
-  b = block j false x
+  b = block (its .0) false (x j)
+
+  starts : blockStart b ≡ startOf x j
+  starts = its .1
 
   one : OneBlock c b (again .message)
-  one =
-      let z : 0 + length rest ≡ length rest = zero-add (length rest) in
-      rw (a .same) (rw z at (each-last (λ j more r. OneBlock c (block j more x) r) 0 first rest (each-block c x first rest (a .granted .push .blocks))))
+  one = its .2
 
   options : WhatBytes (request (again .message))
-  options = rw (a .same) (last-bytes k first rest later (a .granted .own) (a .granted .push .bytes))
+  options = rw (a .same) (last-bytes k first rest later (a .granted .own) (a .granted .calls .bytes))
 
-  body-fits : j * sizeOf x + length (again .message .payload) ≤ c .upload
-  body-fits = rw (a .same) (omega (arith, joined-length x 0 first rest (a .granted .push .blocks .full), a .granted .push .blocks .fits))
+  body-fits : startOf x j + length (again .message .payload) ≤ c .upload
+  body-fits =
+      let z : 0 + length rest ≡ length rest = zero-add (length rest) in
+      let long = rw z at (joined-length x 0 first rest (a .blocks .full)) in
+      rw (a .same) (omega (arith, long, a .blocks .fits))
 
   ok : whatOk (request (again .message)) ≡ true
   ok = message-ok c (again .message) b (fits .config) one
@@ -190,7 +210,7 @@ module _ (c : Config) (w : World) (k : Name) (x : ℕ) (first : Sent) (rest : Li
 
   -- a step that puts a body at the start of its piece and names it shows it
   hands : (bytes : List ℕ) (y : BlockState) → length bytes ≤ c .upload
-      → stepRequest c home away from piece (again .message) ≡ left y (patch piece 0 bytes) (Handed b (bytesFrom home (length bytes)))
+      → stepRequest c home away from piece (again .message) ≡ left y (patch piece 0 bytes) (Handed (one .reply) (bytesFrom home (length bytes)))
       → HandsTo bytes call c then q
   hands bytes y fit step =
       let t = rw step at (request-took c then q fits named in-time in-place (again .message) refl options ok) in
@@ -206,24 +226,26 @@ module _ (c : Config) (w : World) (k : Name) (x : ℕ) (first : Sent) (rest : Li
   handed = withRecorded (withAssembled from (assembly 0 0)) Absent
 
   refused-strict : c .strict ≡ true → 1 ≤ j → RefusesTo 9 call c then q
-  refused-strict strict h = refuses 9 (again-strict c home away from piece (again .message) b one none strict (λ e. omega arith))
+  refused-strict strict h =
+      refuses 9 (again-strict c home away from piece (again .message) b one none strict (λ e. omega (arith, starts, first-starts b e, start-least x j h)))
 
-  handed-one : j ≡ 0 → HandsTo (again .message .payload) call c then q
+  handed-one : startOf x j ≡ 0 → HandsTo (again .message .payload) call c then q
   handed-one first =
-      let meets = meets-first c (from .assembled) piece b first (λ plain. rw none) in
+      let meets = meets-first c (from .assembled) piece b (starts-first b (starts ∙ first)) (λ plain. rw none) in
       hands (again .message .payload) handed (omega (arith, body-fits))
       (own-last c home away from piece (again .message) b one [] meets (omega (arith, body-fits)) refl)
 
-  refused-far : c .strict ≡ false → 16384 < length (first ∷ rest) * sizeOf x → RefusesTo 6 call c then q
-  refused-far plain h = refuses 6 (again-far c home away from piece (again .message) b one none plain (omega arith))
+  refused-far : c .strict ≡ false → 16384 < startOf x (length (first ∷ rest)) → RefusesTo 6 call c then q
+  refused-far plain h = refuses 6 (again-far c home away from piece (again .message) b one none plain (omega (arith, starts)))
 
-  handed-zeros : c .strict ≡ false → length (first ∷ rest) * sizeOf x ≤ 16384 → HandsTo (replicate (j * sizeOf x) 0 ++ last .message .payload) call c then q
+  handed-zeros : c .strict ≡ false → startOf x (length (first ∷ rest)) ≤ 16384 → HandsTo (replicate (startOf x j) 0 ++ last .message .payload) call c then q
   handed-zeros plain h =
-      let body : List ℕ = replicate (j * sizeOf x) 0 ++ again .message .payload in
-      let n : length body ≡ j * sizeOf x + length (again .message .payload) =
-      length-append (replicate (j * sizeOf x) 0) (again .message .payload) ∙ rw (length-replicate {A = ℕ} (j * sizeOf x) 0) in
-      rw (← (a .same))
-      (hands body handed (omega (arith, body-fits)) (again-zeros c home away from piece (again .message) b one none plain refl (omega arith) body-fits))
+      let body : List ℕ = replicate (blockStart b) 0 ++ again .message .payload in
+      let n : length body ≡ blockStart b + length (again .message .payload) =
+      length-append (replicate (blockStart b) 0) (again .message .payload) ∙ rw (length-replicate {A = ℕ} (blockStart b) 0) in
+      rw (← (a .same), ← starts)
+      (hands body handed (omega (arith, body-fits, starts))
+      (again-zeros c home away from piece (again .message) b one none plain refl (omega (arith, starts)) (omega (arith, starts, body-fits))))
 
 -- THE LAST BLOCK SENT TWICE
 pub twice : Twice call

@@ -1,5 +1,5 @@
 -- SIXTEEN TRANSFERS CROSS. From a fresh table: any calls in any order, so long as those that count are over at most sixteen keys. Take a key whose requests are pushes
--- as demand 3 has them, one after another, as many as you like, with its responses anywhere between: each push is answered Continue .., Handed with exactly its joined blocks. What the other keys'
+-- as demand 3 has them (their sizes may fall), one after another, as many as you like, with its responses anywhere between: each push is answered Continue .., Handed with exactly its joined blocks. What the other keys'
 -- calls are does not matter; if each of the sixteen keys sends pushes, each of the sixteen is served so. In both modes.
 use Prim.Native.Nat.{ℕ, _≤_}
 use mathlib.Core.Bool.{Bool, true, false, cond, _&&_, _||_}
@@ -13,7 +13,8 @@ use Rattle.keys.specs.Keys.{Name, same, keyOk}
 use Rattle.call.specs.Call.{World, Call, done, whatOk}
 use Rattle.one_call.specs.Handler.{Handler}
 use Rattle.demands.specs.Clocks.{asks, requestsOn}
-use Rattle.demands.specs.Demand3.{Seen, seen, Sent, callOn, joined, All, AllBytes, Fresh, Blocks, HandsOn}
+use Rattle.demands.specs.Falling.{FallingBlocks}
+use Rattle.demands.specs.Demand3.{Seen, seen, Sent, callOn, joined, All, AllBytes, Fresh, HandsOn}
 
 -- ---- Which calls count
 
@@ -65,16 +66,16 @@ pub record FromFresh (c : Config) (w : World) (keys : List Name) (calls : List C
 
 -- ---- One key's pushes
 
--- A push: its size is 2 to the power exponent + 4; its blocks are `first` and then `rest`. Each push has its own.
+-- A push: its blocks are `first` and then `rest`, and the size of block j is 2 to the power exponent j + 4. Each push has its own.
 pub record Transfer : Type 0 where
-  pub exponent : ℕ
+  pub exponent : ℕ → ℕ
   pub first : Sent
   pub rest : List Sent
 
--- Each is as demand 3 has it.
+-- Each is as demand 3 has it; its sizes may fall.
 abbrev pub AllProper : Config → List Transfer → Type 0
 AllProper c [] = Unit {0}
-AllProper c (p ∷ rest) = Blocks c (p .exponent) (p .first) (p .rest) × AllProper c rest
+AllProper c (p ∷ rest) = FallingBlocks c (p .exponent) (p .first) (p .rest) × AllProper c rest
 
 -- The calls of these pushes on key k, one push after another. Between two pushes any time may pass.
 abbrev pub callsOf : Name → List Transfer → List Call

@@ -1,11 +1,11 @@
 -- Strict mode's two checks in words, and the length that a block meets: but to compute with them, no other proof here looks into their definitions. Assumes nothing.
-use Prim.Native.Nat.{ℕ, zero, suc, _*_, _≤_}
-use mathlib.Core.Bool.{Bool, true, false, not, _&&_, _||_}
-use mathlib.Core.Path.{_≡_, refl}
-use mathlib.Core.Logic.{inl, inr}
+use Prim.Native.Nat.{ℕ, zero, suc, _*_, _≤_, _<_}
+use mathlib.Core.Bool.{Bool, true, false, not, _&&_, _||_, false≢true}
+use mathlib.Core.Path.{_≡_, refl, sym, _∙_}
+use mathlib.Core.Logic.{inl, inr, ⊎-elim}
 use native.Mathlib.Omega.{arith}
-use lib.Dec.{ltb, eqb}
-use borrow.Author.Tests.{not-true, not-false, ltb-true, lt-ltb, eqb-true, eq-eqb, ne-eqb}
+use lib.Dec.{leb, ltb, eqb}
+use borrow.Author.Tests.{not-true, not-false, ltb-true, lt-ltb, leb-true, leb-false, le-leb, eqb-true, eqb-false, eq-eqb, ne-eqb}
 use Rattle.pieces.proofs.Tests.{and-left, and-right, by-cases, on-test, clash-of, refute}
 use Rattle.block_value.specs.Value.{blockSize, blockStart}
 use Rattle.block_value.specs.declared.BlockValue.{BlockValue}
@@ -53,34 +53,39 @@ not-bad b p good bad = clash-of (badForm b p) (bad-is b p bad) good
 
 -- ---- refusal 9
 
--- What a block that goes on must be, where `len` bytes were sent and the last of their blocks had exponent `kept`: it starts where they end, and has that exponent.
+-- What a block that goes on must be, where `len` bytes were sent and the last of their blocks had exponent `kept`: it starts where they end, and is no larger.
 abbrev pub NextAt : ℕ → ℕ → BlockValue → Type 0
-NextAt len kept b = (blockStart b ≡ len) × (b .«size_exponent» ≡ kept)
-
--- so is a block of the same size that starts there
-pub next-same : (len : ℕ) (b : BlockValue) → blockStart b ≡ len → NextAt len (b .«size_exponent») b
-next-same len b start = (start, refl)
+NextAt len kept b = (blockStart b ≡ len) × (b .«size_exponent» ≤ kept)
 
 -- strict mode lets it pass, and no other block but block 0
 pub next-passes : (a : Assembled) (b : BlockValue) → NextAt (a .len) (a .exponent) b → notNext a b ≡ false
 unfolding notNext
-next-passes a b n = rw (eq-eqb (blockStart b) (a .len) (n .0), eq-eqb (b .«size_exponent») (a .exponent) (n .1)) (and-none (not (eqb (b .num) 0)) false refl)
+next-passes a b n = rw (eq-eqb (blockStart b) (a .len) (n .0), le-leb (b .«size_exponent») (a .exponent) (n .1)) (and-none (not (eqb (b .num) 0)) false refl)
 
 pub passed-next : (a : Assembled) (b : BlockValue) → (b .num ≡ 0 → ⊥) → notNext a b ≡ false → NextAt (a .len) (a .exponent) b
 unfolding notNext
 passed-next a b other passed =
-    let both = not-false (eqb (blockStart b) (a .len) && eqb (b .«size_exponent») (a .exponent)) (rw (ne-eqb (b .num) 0 other) at passed) in
-    (eqb-true (blockStart b) (a .len) (and-left _ _ both), eqb-true (b .«size_exponent») (a .exponent) (and-right (eqb (blockStart b) (a .len)) _ both))
+    let both = not-false (eqb (blockStart b) (a .len) && leb (b .«size_exponent») (a .exponent)) (rw (ne-eqb (b .num) 0 other) at passed) in
+    (eqb-true (blockStart b) (a .len) (and-left _ _ both), leb-true (b .«size_exponent») (a .exponent) (and-right (eqb (blockStart b) (a .len)) _ both))
 
 pub first-passes : (a : Assembled) (b : BlockValue) → b .num ≡ 0 → notNext a b ≡ false
 unfolding notNext
 first-passes a b first = rw (eq-eqb (b .num) 0 first)
 
 pub misplaced-is : (a : Assembled) (b : BlockValue) → Misplaced a b → notNext a b ≡ true
-misplaced-is a b m = by-cases (notNext a b) (λ y. y) (λ n. absurd (m .1 (passed-next a b (m .0) n)))
+misplaced-is a b m =
+    by-cases (notNext a b) (λ y. y)
+    (λ n.
+    let next = passed-next a b (m .0) n in
+    absurd (⊎-elim (λ (away : blockStart b ≡ a .len → ⊥). away (next .0)) (λ (rises : a .exponent < b .«size_exponent»). omega arith) (m .1)))
 
 pub misplaced-as : (a : Assembled) (b : BlockValue) → notNext a b ≡ true → Misplaced a b
-misplaced-as a b y = (λ e. clash-of (notNext a b) y (first-passes a b e), λ n. clash-of (notNext a b) y (next-passes a b n))
+misplaced-as a b y =
+    let other : b .num ≡ 0 → ⊥ = λ first. clash-of (notNext a b) y (first-passes a b first) in
+    (other,
+    by-cases (leb (b .«size_exponent») (a .exponent))
+    (λ no-larger. inl (λ start. clash-of (notNext a b) y (next-passes a b (start, leb-true (b .«size_exponent») (a .exponent) no-larger))))
+    (λ rises. inr (leb-false (b .«size_exponent») (a .exponent) rises)))
 
 -- ---- where a block starts
 
@@ -108,3 +113,14 @@ pub meets-afresh : (strict : Bool) (a : Assembled) (b : BlockValue) → b .num �
 unfolding lengthMet
 meets-afresh true a b first none = rw (eq-eqb (b .num) 0 first)
 meets-afresh false a b first none = none refl
+
+-- where strict mode lets a block pass, that is where it starts: block 0 starts afresh, and any other where the assembly ends
+pub meets-start : (a : Assembled) (b : BlockValue) → notNext a b ≡ false → lengthMet true a b ≡ blockStart b
+meets-start a b passed =
+    by-cases (eqb (b .num) 0)
+    (λ y.
+    let first : b .num ≡ 0 = eqb-true (b .num) 0 y in
+    meets-afresh true a b first (λ plain. absurd (false≢true (sym plain))) ∙ sym (first-starts b first))
+    (λ n.
+    let other : b .num ≡ 0 → ⊥ = eqb-false (b .num) 0 n in
+    meets-all true a b (λ _ first. absurd (other first)) ∙ sym (passed-next a b other passed .0))

@@ -1,45 +1,59 @@
 -- STRICT MODE SAYS NO. Assumes nothing.
-use Prim.Native.Nat.{ℕ, _≤_, _<_}
+use Prim.Native.Nat.{ℕ, suc, _+_, _-_, _*_, _^_, _≤_, _<_}
 use mathlib.Core.Bool.{true, false, false≢true, _&&_}
-use mathlib.Core.Path.{_≡_, refl}
+use mathlib.Core.Path.{_≡_, refl, _∙_, ap}
 use mathlib.Core.Logic.{inl, inr, ⊎-elim}
 use mathlib.Core.List.{List}
 use mathlib.Core.Option.{Option, none as no-option, some}
+use native.Mathlib.Nat.{mul-assoc}
 use native.Mathlib.Omega.{arith}
-use lib.ListN.{length}
+use lib.ListN.{length, set}
 use lib.Dec.{eqb}
-use borrow.Author.Tests.{eqb-true, eqb-false}
+use borrow.Author.Tests.{eqb-true, eqb-false, ne-eqb}
+use Rattle.pieces.specs.Memory.{pieceOf}
 use Rattle.pieces.proofs.Tests.{and-left, and-right, by-cases, refute}
-use Rattle.block_value.specs.Value.{blockSize}
+use Rattle.splicing.specs.Splice.{splicedLength, spliceOf, pieceAfter}
+use Rattle.splicing.specs.declared.Splice.the-variants as splice
+use Rattle.splicing.proofs.Splicing as splicing
+use Rattle.block_value.specs.Value.{sizeOf, blockSize, blockStart}
+use Rattle.block_value.proofs.Laws.{size-smaller, size-least, size-most}
 use Rattle.block_option.specs.Option.{readOf}
 use Rattle.block_option.specs.declared.Reading.{Reading}
 use Rattle.block_option.specs.declared.Reading.the-variants.{Value, Unreadable}
 use Rattle.block_option.proofs.Laws.{read-exponent}
 use Rattle.block_value.specs.declared.BlockValue.{BlockValue}
 use Rattle.negotiation.specs.Negotiation.{counted, requestBlock}
-use Rattle.negotiation.specs.declared.MaybeBlock.the-variants.{Given}
+use Rattle.negotiation.specs.declared.MaybeBlock.the-variants.{Absent, Given}
 use Rattle.negotiation.specs.declared.Negotiated.the-variants as agreed
 use Rattle.config.specs.declared.Config.{Config}
 use Rattle.block_state.specs.declared.Assembled.{Assembled}
 use Rattle.block_state.specs.declared.BlockState.{BlockState}
+use Rattle.block_state.specs.declared.Part.{Part}
 use Rattle.block_state.specs.declared.Answer.{Answer}
-use Rattle.block_state.specs.declared.Answer.the-variants.{Refused}
+use Rattle.block_state.specs.declared.Answer.the-variants.{Continue, Handed, Refused}
 use Rattle.block_state.specs.Message.{Request, Response, request, response}
 use Rattle.block_state.specs.State.{assembledOk, cachedOk, stateOk}
 use Rattle.block_state.specs.Step.{Left}
-use Rattle.request_block1.specs.Block1.{badForm, notNext}
+use Rattle.request_block1.specs.Block1.{badForm, notNext, lengthMet}
+use Rattle.entries.specs.declared.Entry.{Entry}
 use Rattle.entries.specs.Entries.{entryOk}
-use Rattle.block_table.specs.Table.{tableOk}
+use Rattle.block_table.specs.Table.{at, tableOk}
 use Rattle.judge.specs.Limits.{configOk, memoriesOk}
-use Rattle.call.specs.Call.{World, Call, callAt, whatOk, withinLimits, call}
+use Rattle.block_table.proofs.Row.{at-set-same}
+use Rattle.key_place.specs.Place.{place}
+use Rattle.places.specs.Places.{opened}
+use Rattle.block_table.proofs.TableFits.{row-length}
+use Rattle.call.proofs.Frame.{world-fits}
+use Rattle.call.specs.Call.{World, Call, callAt, rowOf, whatOk, withinLimits, call}
 use Rattle.pairing.proofs.Pairing.{refusal-number}
 use Rattle.one_call.specs.Agreed.{recordedFor, requestAgrees}
 use Rattle.one_call.specs.Touch.{RefusesTo}
 use Rattle.one_call.specs.Strict.{tookBlock, assembledFor, RightlyTaken, BadlyFormed, Misplaced, PassesFive, plainly, SaysTheSame, saying, OnlyStrictMakes, Fine, StrictSaysNo}
-use Rattle.one_call.proofs.Checks.{and-none, bad-is, bad-as, bad-not, not-bad, passed-next, misplaced-is, misplaced-as, meets-all}
-use Rattle.one_call.proofs.Step.{step-bad, step-astray, Unchecked, step-plainly, response-plainly}
+use Rattle.one_call.specs.Strict.{Takable, assembledIn, StrictSaysYes}
+use Rattle.one_call.proofs.Checks.{and-none, bad-is, bad-as, bad-not, not-bad, passed-next, misplaced-is, misplaced-as, meets-all, meets-start}
+use Rattle.one_call.proofs.Step.{step-bad, step-astray, step-more, step-last, Unchecked, step-plainly, response-plainly}
 use Rattle.one_call.proofs.Outcomes.{openedOf, TookBlock, Why, unagreed, badly, astray, unspliced, Outcome, refused, past, tooLarge, continued, onwards, serves, none, took, answered}
-use Rattle.one_call.proofs.Touch.{refused-touches}
+use Rattle.one_call.proofs.Touch.{made, refused-touches}
 use Rattle.one_call.proofs.Refusals.{same-number, of-refusal}
 
 -- ---- what the two tests say
@@ -155,6 +169,85 @@ module _ (c : Config) (w : World) (q : Call) (r : Request) (asks : q .what ≡ r
       answered (λ (a : Answer). a ≡ Refused 9 → Nine) c w q (λ n h e. let z : n ≡ 9 = same-number n 9 e in absurd (omega (arith, h .1))) r asks
       (λ home away u g o. reason home away _ u refl Nine 9 (λ e. omega arith) (why-nine home away _ u refl) g o)
 
+-- ---- a block that is taken
+
+module _ (c : Config) (w : World) (q : Call) (r : Request) (b : BlockValue) (strict : c .strict ≡ true) (t : Takable c w q r b) where
+  abbrev here : ℕ
+  here = place (q .key) (rowOf c w q)
+
+  abbrev state : BlockState
+  state = opened (q .key) (rowOf c w q) .state
+
+  abbrev piece : List ℕ
+  piece = pieceOf (c .upload) here (w .upload)
+
+  abbrev start : ℕ
+  start = blockStart b
+
+  abbrev p : ℕ
+  p = length (r .payload)
+
+  abbrev home : ℕ
+  home = here * c .upload
+
+  abbrev away : ℕ
+  away = here * c .response
+
+  abbrev then : List ℕ
+  then = pieceAfter piece start start (blockSize b) (r .payload)
+
+  in-row : here < length (rowOf c w q)
+  in-row =
+      let f = world-fits c w q (t .five .placed .limits) (t .five .placed .sixteen) in
+      rw (row-length c (w .table) (q .time) (f .table) (f .sixteen)) (t .five .placed .place)
+
+  -- what is stored at the key's place
+  stored : (n : Entry) → at (set (rowOf c w q) here n) here .state .assembled ≡ n .state .assembled
+  stored n = ap (λ (e : Entry). e .state .assembled) (at-set-same (rowOf c w q) here n in-row)
+
+  passed : notNext (state .assembled) b ≡ false
+  passed = refute (notNext (state .assembled) b) (λ y. t .next (misplaced-as (state .assembled) b y))
+
+  good : (c .strict && badForm b p) ≡ false
+  good = and-none (c .strict) _ (bad-not b p (t .well))
+
+  meets : lengthMet (c .strict) (state .assembled) b ≡ start
+  meets = rw strict (meets-start (state .assembled) b passed)
+
+  body : spliceOf (c .upload) start start (blockSize b) p ≡ splice.Body (start + p)
+  body =
+      let long : splicedLength start start (blockSize b) p ≡ start + p = omega arith in
+      splicing.taken (c .upload) start start (blockSize b) p (omega (arith, size-most (b .«size_exponent»))) (omega (arith, t .fits)) ∙ ap splice.Body long
+
+  takes-more : b .more ≡ true
+      → (call c w q .answer ≡ Continue (t .five .reply))
+      × (assembledIn (call c w q .world) c w q ≡ record { len = start + blockSize b; exponent = b .«size_exponent» })
+  unfolding callAt
+  takes-more more =
+      let full : p ≡ blockSize b = good-is c (state .assembled) r b (t .five .given) (exponent-read c (r .block1) b (t .five .given)) (bad-not b p (t .well)) passed .full more in
+      let step = step-more c home away state piece r b (t .five .reply) (t .five .given) (reached c w q r b strict (t .five)) good (and-none (c .strict) _ passed) start meets
+      (start + p) then body refl more in
+      rw (made c w q (t .five .placed), t .five .asks, step) (refl, stored _ ∙ rw (ne-eqb (start + p) 0 (λ e. omega (arith, size-least (b .«size_exponent»))), full))
+
+  takes-last : b .more ≡ false → requestBlock c (r .block2) ≡ Absent
+      → ((x : Part) × (call c w q .answer ≡ Handed (t .five .reply) x)) × (assembledIn (call c w q .world) c w q ≡ record { len = 0; exponent = 0 })
+  unfolding callAt
+  takes-last last alone =
+      let step = step-last c home away state piece r b (t .five .reply) (t .five .given) (reached c w q r b strict (t .five)) good (and-none (c .strict) _ passed) start meets
+      (start + p) then body refl last alone in
+      rw (made c w q (t .five .placed), t .five .asks, step) ((_, refl), stored _)
+
+  -- where it ends, any block no larger can start
+  goes-on : b .more ≡ true → (y : ℕ) → y ≤ assembledIn (call c w q .world) c w q .exponent → (num : ℕ) × (num * sizeOf y ≡ assembledIn (call c w q .world) c w q .len)
+  goes-on more y = rw (takes-more more .1) from
+    where
+      from : y ≤ b .«size_exponent» → (num : ℕ) × (num * sizeOf y ≡ start + blockSize b)
+      from smaller =
+          let k : ℕ = b .«size_exponent» in
+          let m : ℕ = 2 ^ (k - y) in
+          (suc (b .num) * m,
+          mul-assoc (suc (b .num)) m (sizeOf y) ∙ ap (λ (n : ℕ). suc (b .num) * n) (size-smaller k y (exponent-read c (r .block1) b (t .five .given)) smaller) ∙ omega arith)
+
 -- ---- all else is as in plain mode
 
 unchecked : (c : Config) (home away : ℕ) (s : BlockState) (u : List ℕ) (r : Request) (b : BlockValue) → Fine (s .assembled) (length (r .payload)) b
@@ -202,3 +295,7 @@ strict-says-no =
       allElse = all-else;
       responses = of-responses;
     }
+
+-- AND YES
+pub strict-says-yes : StrictSaysYes call
+strict-says-yes = record { more = takes-more; goesOn = goes-on; last = takes-last }

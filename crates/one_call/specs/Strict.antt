@@ -1,13 +1,13 @@
 -- STRICT MODE SAYS NO. Whatever the table, the memories and the call: in strict mode no block is taken unless it is well formed and, but for block 0,
--- the next. And a block that passes checks 1 to 5 and is not gets 10 or 9, 10 before 9, and changes nothing but the touch.
-use Prim.Native.Nat.{ℕ, _≤_, _<_}
+-- the next. And a block that passes checks 1 to 5 and is not gets 10 or 9, 10 before 9, and changes nothing but the touch. AND IT SAYS YES to every other one that fits its piece.
+use Prim.Native.Nat.{ℕ, _+_, _*_, _≤_, _<_}
 use mathlib.Core.Bool.{Bool, true, false}
 use mathlib.Core.Path.{_≡_}
 use mathlib.Core.Logic.{_⊎_}
 use mathlib.Core.List.{List, [], _∷_}
 use mathlib.Core.Option.{none, some}
 use lib.ListN.{length}
-use Rattle.block_value.specs.Value.{blockSize, blockStart}
+use Rattle.block_value.specs.Value.{sizeOf, blockSize, blockStart}
 use Rattle.block_value.specs.declared.BlockValue.{BlockValue}
 use Rattle.negotiation.specs.Negotiation.{requestBlock, negotiated}
 use Rattle.negotiation.specs.declared.MaybeBlock.{MaybeBlock}
@@ -16,13 +16,15 @@ use Rattle.negotiation.specs.declared.Negotiated.the-variants.{Block}
 use Rattle.config.specs.declared.Config.{Config}
 use Rattle.config.specs.Mode.{numLimit}
 use Rattle.block_state.specs.declared.Assembled.{Assembled}
+use Rattle.block_state.specs.declared.Part.{Part}
 use Rattle.block_state.specs.declared.Answer.{Answer}
 use Rattle.block_state.specs.declared.Answer.the-variants.{Continue, TooLarge, Handed, Pass, Served, Plain, Whole, First, Refused}
 use Rattle.block_state.specs.Message.{Request, Response, request, response}
+use Rattle.key_place.specs.Place.{place}
 use Rattle.places.specs.Places.{opened}
 use Rattle.call.specs.Call.{World, Call, rowOf}
 use Rattle.pairing.specs.Pairing.{roomOf, granted, numFor}
-use Rattle.one_call.specs.Handler.{Handler}
+use Rattle.one_call.specs.Handler.{Handler, entryAt}
 use Rattle.one_call.specs.Touch.{Placed, RefusesTo}
 use Rattle.one_call.specs.Agreed.{recordedFor}
 
@@ -55,8 +57,8 @@ pub record RightlyTaken (c : Config) (l : Assembled) (r : Request) (b : BlockVal
   pub exponent : b .«size_exponent» ≤ 6
   pub short : length (r .payload) ≤ blockSize b
   pub full : b .more ≡ true → length (r .payload) ≡ blockSize b
-  -- If it is not block 0, it starts where the assembly ends, and has the exponent that was kept.
-  pub next : (b .num ≡ 0 → ⊥) → (blockStart b ≡ l .len) × (b .«size_exponent» ≡ l .exponent)
+  -- If it is not block 0, it starts where the assembly ends, and is no larger than the last block taken: its exponent is at most the kept one.
+  pub next : (b .num ≡ 0 → ⊥) → (blockStart b ≡ l .len) × (b .«size_exponent» ≤ l .exponent)
 
 -- ---- A block that is refused
 
@@ -64,9 +66,9 @@ pub record RightlyTaken (c : Config) (l : Assembled) (r : Request) (b : BlockVal
 abbrev pub BadlyFormed : BlockValue → ℕ → Type 0
 BadlyFormed b p = (b .«size_exponent» ≡ 7) ⊎ (blockSize b < p) ⊎ ((b .more ≡ true) × (p ≡ blockSize b → ⊥))
 
--- Misplaced: not block 0, and not at the end of the assembly with the kept exponent.
+-- Misplaced: not block 0, and with a wrong start or a rising exponent: not at the end of the assembly, or above the kept one.
 abbrev pub Misplaced : Assembled → BlockValue → Type 0
-Misplaced l b = (b .num ≡ 0 → ⊥) × ((blockStart b ≡ l .len) × (b .«size_exponent» ≡ l .exponent) → ⊥)
+Misplaced l b = (b .num ≡ 0 → ⊥) × ((blockStart b ≡ l .len → ⊥) ⊎ (l .exponent < b .«size_exponent»))
 
 -- A request with Block1 value b that passes checks 1 to 3 (`Placed`), and 4 and 5: a block is agreed on.
 pub record PassesFive (c : Config) (w : World) (q : Call) (r : Request) (b : BlockValue) : Type 0 where
@@ -127,6 +129,32 @@ pub record StrictSaysNo (h : Handler) : Type 0 where
       → ((b : BlockValue) → requestBlock c (r .block1) ≡ Given b → Fine (assembledFor c w q) (length (r .payload)) b) → h c w q ≡ h (plainly c) w (saying q p)
   pub responses : (c : Config) (w : World) (q : Call) (r : Response) → q .what ≡ response r
       → (r .own ≡ false → OnlyStrictMakes c (recordedFor c w q) (r .bare) → ⊥) → h c w q ≡ h (plainly c) w q
+
+-- ---- And yes
+
+-- A block that passes checks 1 to 5, is well formed and not misplaced, and whose payload the piece holds. (That its message leaves room for its size is not asked.)
+pub record Takable (c : Config) (w : World) (q : Call) (r : Request) (b : BlockValue) : Type 0 where
+  pub five : PassesFive c w q r b
+  pub well : BadlyFormed b (length (r .payload)) → ⊥
+  pub next : Misplaced (assembledFor c w q) b → ⊥
+  pub fits : blockStart b + length (r .payload) ≤ c .upload
+
+-- What its key has assembled in the world v that the call left.
+abbrev pub assembledIn : World → Config → World → Call → Assembled
+assembledIn v c w q = entryAt v (place (q .key) (rowOf c w q)) .state .assembled
+
+pub record StrictSaysYes (h : Handler) : Type 0 where
+  -- Marked, it is answered Continue with the value that was agreed on. What is assembled ends where it ends, and its exponent is the one kept: "that of the last block taken".
+  pub more : (c : Config) (w : World) (q : Call) (r : Request) (b : BlockValue) → c .strict ≡ true → (t : Takable c w q r b) → b .more ≡ true
+      → (h c w q .answer ≡ Continue (t .five .reply))
+      × (assembledIn (h c w q .world) c w q ≡ record { len = blockStart b + blockSize b; exponent = b .«size_exponent» })
+  -- Then a block of any size up to the kept one has a num of its own that starts at the assembled length.
+  pub goesOn : (c : Config) (w : World) (q : Call) (r : Request) (b : BlockValue) → c .strict ≡ true → Takable c w q r b → b .more ≡ true
+      → (y : ℕ) → y ≤ assembledIn (h c w q .world) c w q .exponent → (num : ℕ) × (num * sizeOf y ≡ assembledIn (h c w q .world) c w q .len)
+  -- Unmarked and with no Block2, it is Handed, with the value that was agreed on; then nothing is assembled.
+  pub last : (c : Config) (w : World) (q : Call) (r : Request) (b : BlockValue) → c .strict ≡ true → (t : Takable c w q r b) → b .more ≡ false
+      → requestBlock c (r .block2) ≡ Absent
+      → ((body : Part) × (h c w q .answer ≡ Handed (t .five .reply) body)) × (assembledIn (h c w q .world) c w q ≡ record { len = 0; exponent = 0 })
 
 -- Which options both modes read alike: none, and every one that has not just three bytes. And one of three bytes that starts with a zero is read in strict mode as the other
 -- two are in plain mode.

@@ -6,7 +6,7 @@ use mathlib.Core.List.{List}
 use native.Mathlib.Omega.{arith}
 use lib.ListN.{length, take}
 use lib.Seq.{length-take-le}
-use lib.Dec.{eqb}
+use lib.Dec.{leb, eqb}
 use borrow.Author.Tests.{eqb-true, not-false}
 use Rattle.pieces.proofs.Memory.{length-patch}
 use Rattle.pieces.proofs.Tests.{on-test, and-left}
@@ -106,7 +106,7 @@ pub strict-is-near : (a : Assembled) (b : BlockValue) → notNext a b ≡ false 
 unfolding notNext lengthMet
 strict-is-near a b next = go (eqb (b .num) 0) refl next
   where
-    go : (z : Bool) → eqb (b .num) 0 ≡ z → (not z && not (eqb (blockStart b) (a .len) && eqb (b .«size_exponent») (a .exponent))) ≡ false
+    go : (z : Bool) → eqb (b .num) 0 ≡ z → (not z && not (eqb (blockStart b) (a .len) && leb (b .«size_exponent») (a .exponent))) ≡ false
         → blockStart b + blockSize b - cond (true && z) 0 (a .len) ≤ 16384
     go true e n =
         let start : blockStart b ≡ 0 = rw (eqb-true (b .num) 0 e) (omega arith) in

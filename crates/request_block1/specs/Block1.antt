@@ -2,7 +2,7 @@
 use Prim.Native.Nat.{ℕ, _≤_}
 use mathlib.Core.Bool.{Bool, cond, not, _&&_, _||_}
 use mathlib.Core.List.{List}
-use lib.Dec.{ltb, eqb}
+use lib.Dec.{leb, ltb, eqb}
 use Rattle.splicing.specs.Splice.{spliceOf, pieceAfter}
 use Rattle.splicing.specs.declared.Splice.{Splice}
 use Rattle.splicing.specs.declared.Splice.the-variants as splice
@@ -19,9 +19,9 @@ use Rattle.request_block1.specs.declared.Taken.the-variants.{Refused, Mo
 unfoldable pub badForm : BlockValue → ℕ → Bool
 badForm b p = eqb (b .«size_exponent») 7 || ltb (blockSize b) p || b .more && not (eqb p (blockSize b))
 
--- "Any other num is refusal 9 unless a = L and the exponent equals the kept one."
+-- "Any other num is refusal 9 unless a = L" and the exponent is not above the kept one: 9 "is now given for a wrong start or a rising exponent" (document 02).
 unfoldable pub notNext : Assembled → BlockValue → Bool
-notNext a b = not (eqb (b .num) 0) && not (eqb (blockStart b) (a .len) && eqb (b .«size_exponent») (a .exponent))
+notNext a b = not (eqb (b .num) 0) && not (eqb (blockStart b) (a .len) && leb (b .«size_exponent») (a .exponent))
 
 -- The assembled length that a block meets: in strict mode "num 0 starts afresh, the old assembly counting as empty".
 unfoldable pub lengthMet : Bool → Assembled → BlockValue → ℕ

@@ -25,10 +25,9 @@ fn bad_form(block: BlockValue, p: usize) -> bool
 fn not_next(assembled: Assembled, block: BlockValue) -> bool
     ensures { λ r. ⌜ r ≡ notNext assembled block ⌝ }
 {
-    let start = block_value::start(block);
-    let next = (start == wide::usize_of_u32(assembled.len))
-        & (block.size_exponent == assembled.exponent);
-    !(block.num == 0) & !next
+    let at_end = block_value::start(block) == wide::usize_of_u32(assembled.len);
+    let no_larger = block.size_exponent <= assembled.exponent;
+    !(block.num == 0) & !(at_end & no_larger)
 }
 
 fn length_met(strict: bool, assembled: Assembled, block: BlockValue) -> usize
