@@ -30,7 +30,7 @@ cases-hold false =
 
 pub strict-cases : AllSay strictCases
 unfolding steps
-strict-cases = (refl, (refl, (refl, (refl, (refl, (refl, (refl, (refl, (refl, (refl, (refl, (refl, (refl, tt)))))))))))))
+strict-cases = (refl, (refl, (refl, (refl, (refl, (refl, (refl, (refl, (refl, (refl, (refl, (refl, (refl, (refl, (refl, (refl, (refl, (refl, (refl, (refl, (refl, tt)))))))))))))))))))))
 
 pub edge-cases : AllSay edgeCases
 unfolding calls

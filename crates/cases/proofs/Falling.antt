@@ -28,8 +28,10 @@ blocks-fall strict =
     record {
       numbered = (
         record { num = 0; starts = refl; count = omega arith; reads = reads (narrow strict) (0x0A ∷ []) (omega arith) },
-        (record { num = 2; starts = refl; count = omega arith; reads = reads (narrow strict) (0x29 ∷ []) (omega arith) },
-        record { num = 6; starts = refl; count = omega arith; reads = reads (narrow strict) (0x60 ∷ []) (omega arith) }),
+        (
+          record { num = 2; starts = refl; count = omega arith; reads = reads (narrow strict) (0x29 ∷ []) (omega arith) },
+          record { num = 6; starts = refl; count = omega arith; reads = reads (narrow strict) (0x60 ∷ []) (omega arith) },
+        ),
       );
       size = omega arith;
       falls = λ j h. never-rises j;
@@ -49,8 +51,19 @@ given-fall strict =
       calls = record {
         limits = refl;
         sixteen = refl;
-        bytes = (((omega arith, tt), tt), (((omega arith, tt), tt), (((omega arith, tt), tt), (tt,
-            (((omega arith, tt), tt), (((omega arith, tt), tt), (((omega arith, tt), tt), tt)))))));
+        bytes = (
+          ((omega arith, tt), tt),
+          (
+            ((omega arith, tt), tt),
+            (
+              ((omega arith, tt), tt),
+              (
+                tt,
+                (((omega arith, tt), tt), (((omega arith, tt), tt), (((omega arith, tt), tt), tt))),
+              ),
+            ),
+          ),
+        );
       };
       own = refl;
       clock = (omega arith, (omega arith, (omega arith, (omega arith, (omega arith, (omega arith, (omega arith, tt)))))));

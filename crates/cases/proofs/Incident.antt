@@ -83,11 +83,13 @@ module _ (c : Config) (home at : ℕ) (s : BlockState) (u : List ℕ) (x j a l :
   piece = rw start
 
   within-more : m ≡ true → stepRequest c home at s u r ≡ left (withAssembled s (assembly l x)) replaced (Continue (unmarked b))
+  unfolding carried
   within-more =
       step-more c home at s u r b (unmarked b) (h .numbered) (carried .agreed) (form-ok c b r carried) (rw plain) l met l replaced body piece
 
   within-last : m ≡ false
       → stepRequest c home at s u r ≡ left (withRecorded (withAssembled s (assembly 0 0)) Absent) replaced (Handed (unmarked b) (bytesFrom home l))
+  unfolding carried
   within-last last =
       step-last c home at s u r b (unmarked b) (h .numbered) (carried .agreed) (form-ok c b r carried) (rw plain) l met l replaced body piece last (h .alone)
 

@@ -82,6 +82,6 @@ smaller (Given b) a = not (eqb (b .num) 0) && ltb (b .«size_exponent») (a .exp
 abbrev pub oneSizeOnly : Handler
 oneSizeOnly c w q = cond (c .strict && smaller (block1Of c (q .what)) (assembledFor c w q)) (done (touched c w q) (Refused 9)) (call c w q)
 
-pub record FallingExcluded : Type 0 where
+pub record FallingExcluded : Type 1 where
   pub shams : (Sham : Bool → Handler → Type 0) → BreaksDemand3 Sham → BreaksFalling Sham
   pub oneSize : Demand3Falling oneSizeOnly → ⊥

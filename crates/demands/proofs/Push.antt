@@ -361,9 +361,10 @@ each-block c x first rest b = from 0 first rest (b .size) (λ i l h. b .falls i 
         → Each (λ j more r. StartsAt c (startOf x j) (x j) more r) j s rest → Each (λ j more r. Fills more (length (r .payload)) (sizeOf (x j))) j s rest
         → Each (λ j more r. requestBlock c (r .block2) ≡ Absent) j s rest → Each (λ j more r. LeavesRoom c j (sizeOf (x j)) (r .bare)) j s rest → Each (BlockAt c x) j s rest
     from j s [] six falls n f a r = block-at c x j false (s .message) six n f a r
-    from j s (t ∷ rest) six falls n f a r =
-        (block-at c x j true (s .message) six (n .0) (f .0) (a .0) (r .0),
-        from (suc j) t rest (omega (arith, falls j (omega arith) (omega arith))) (λ i l h. falls i (omega arith) (omega arith)) (n .1) (f .1) (a .1) (r .1))
+    from j s (t ∷ rest) six falls n f a r = (
+      block-at c x j true (s .message) six (n .0) (f .0) (a .0) (r .0),
+      from (suc j) t rest (omega (arith, falls j (omega arith) (omega arith))) (λ i l h. falls i (omega arith) (omega arith)) (n .1) (f .1) (a .1) (r .1),
+    )
 
 -- each goes on where the one before it ends
 follow-on : (c : Config) (x : ℕ → ℕ) (j : ℕ) (s : Sent) (rest : List Sent) → ((i : ℕ) → j ≤ i → i < j + length rest → x (suc i) ≤ x i)
@@ -372,9 +373,13 @@ unfolding each-first
 follow-on c x j s [] falls each = (each .2, refl)
 follow-on c x j s (t ∷ rest) falls each =
     let next = each-first (BlockAt c x) (suc j) t rest (each .1) in
-    let ends : next .0 * sizeOf (x (suc j)) ≡ each .0 .0 * sizeOf (x j) + length (s .message .payload) = omega (arith, next .1, each .0 .1, each .0 .2 .full) in
-    (each .0 .2, refl, block (next .0) (marked rest) (x (suc j)), (ends, falls j (omega arith) (omega arith)),
-    follow-on c x (suc j) t rest (λ i l h. falls i (omega arith) (omega arith)) (each .1))
+    let ends : next .0 * sizeOf (x (suc j)) ≡ each .0 .0 * sizeOf (x j) + length (s .message .payload) = omega (arith, next .1, each .0 .1, each .0 .2 .full) in (
+      each .0 .2,
+      refl,
+      block (next .0) (marked rest) (x (suc j)),
+      (ends, falls j (omega arith) (omega arith)),
+      follow-on c x (suc j) t rest (λ i l h. falls i (omega arith) (omega arith)) (each .1),
+    )
 
 pub blocks-follow : (c : Config) (x : ℕ → ℕ) (first : Sent) (rest : List Sent) → FallingBlocks c x first rest
     → (b : BlockValue) × (b .num ≡ 0) × Follow c b first rest

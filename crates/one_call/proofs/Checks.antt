@@ -81,11 +81,12 @@ misplaced-is a b m =
 
 pub misplaced-as : (a : Assembled) (b : BlockValue) → notNext a b ≡ true → Misplaced a b
 misplaced-as a b y =
-    let other : b .num ≡ 0 → ⊥ = λ first. clash-of (notNext a b) y (first-passes a b first) in
-    (other,
-    by-cases (leb (b .«size_exponent») (a .exponent))
-    (λ no-larger. inl (λ start. clash-of (notNext a b) y (next-passes a b (start, leb-true (b .«size_exponent») (a .exponent) no-larger))))
-    (λ rises. inr (leb-false (b .«size_exponent») (a .exponent) rises)))
+    let other : b .num ≡ 0 → ⊥ = λ first. clash-of (notNext a b) y (first-passes a b first) in (
+      other,
+      by-cases (leb (b .«size_exponent») (a .exponent))
+          (λ no-larger. inl (λ start. clash-of (notNext a b) y (next-passes a b (start, leb-true (b .«size_exponent») (a .exponent) no-larger))))
+          (λ rises. inr (leb-false (b .«size_exponent») (a .exponent) rises)),
+    )
 
 -- ---- where a block starts
 

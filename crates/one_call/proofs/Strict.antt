@@ -244,9 +244,10 @@ module _ (c : Config) (w : World) (q : Call) (r : Request) (b : BlockValue) (str
       from : y ≤ b .«size_exponent» → (num : ℕ) × (num * sizeOf y ≡ start + blockSize b)
       from smaller =
           let k : ℕ = b .«size_exponent» in
-          let m : ℕ = 2 ^ (k - y) in
-          (suc (b .num) * m,
-          mul-assoc (suc (b .num)) m (sizeOf y) ∙ ap (λ (n : ℕ). suc (b .num) * n) (size-smaller k y (exponent-read c (r .block1) b (t .five .given)) smaller) ∙ omega arith)
+          let m : ℕ = 2 ^ (k - y) in (
+            suc (b .num) * m,
+            mul-assoc (suc (b .num)) m (sizeOf y) ∙ ap (λ (n : ℕ). suc (b .num) * n) (size-smaller k y (exponent-read c (r .block1) b (t .five .given)) smaller) ∙ omega arith,
+          )
 
 -- ---- all else is as in plain mode
 
