@@ -1,8 +1,7 @@
--- OTHER LANES' CLOCKS, AND THE KEY'S OWN RESPONSES. Demand 3, also for sizes that fall (Falling.antt), asks that no call's time is before that of the call before it, and that
--- the key has no call but the blocks.
--- Less will do. Each REQUEST ON THE KEY is not before any call that came ahead of it; other calls may go back as they like: before the clock they are refused, and change
--- nothing. (A call that is ahead of its time is another matter: unless it is refused with 1 or 3 it sets the clock, and whoever comes before that time is refused.) And
--- RESPONSES ON THE KEY may stand anywhere, as they do wherever a body that was handed on is answered.
+-- OTHER LANES' CLOCKS, AND THE KEY'S OWN RESPONSES. Demand 3, also where sizes fall (Falling.antt), asks that no call's time is before that of the call before it, and that the
+-- key has no call but the blocks. Less will do. Each REQUEST ON THE KEY is not before any call that came ahead of it; other calls may go back as they like: before the clock they
+-- are refused, and change nothing. (A call that is ahead of its time is another matter: unless it is refused with 1 or 3 it sets the clock, and whoever comes before that time is
+-- refused.) And RESPONSES ON THE KEY may stand anywhere, as they do wherever a body that was handed on is answered.
 use Prim.Native.Nat.{ℕ, _≤_, max}
 use mathlib.Core.Bool.{Bool, true, false, cond, _&&_}
 use mathlib.Core.Path.{_≡_}
