@@ -6,12 +6,12 @@ use mathlib.Core.Logic.{inr}
 use mathlib.Core.List.{_∷_, []}
 use native.Mathlib.Omega.{arith}
 use Rattle.config.proofs.Mode.{nums-least}
-use Rattle.demands.specs.Demand3.{callOn, Granted}
+use Rattle.demands.specs.Demand3.{Granted}
 use Rattle.demands.specs.Falling.{FallingBlocks, Extends, Demand3Falling}
 use Rattle.demands.proofs.Falling.{extends}
 use Rattle.many_calls.specs.Twice.{SentAgain}
-use Rattle.cases.specs.Shams.{key, sent}
-use Rattle.cases.specs.Falling.{narrow, lent, falling, fallFirst, fallSecond, fallLast, fallRest, fallLater, fallAgain, CanFall, oneSizeOnly, FallingExcluded}
+use Rattle.cases.specs.Shams.{key}
+use Rattle.cases.specs.Falling.{narrow, lent, falling, fallFirst, fallRest, fallLater, fallAgain, CanFall, oneSizeOnly, FallingExcluded}
 use Rattle.cases.proofs.Computes.{values, limits, calls}
 use Rattle.cases.proofs.Shams.{fresh-free, fresh-nothing, reads}
 use Rattle.cases.proofs.Given.{own}

@@ -1,7 +1,7 @@
 -- DEMAND 3 holds of the definition of a call, in both modes: first with sizes that fall, other lanes' clocks going as they like and the key's own responses anywhere
 -- (specs/Clocks.antt), and so for sizes that fall (specs/Falling.antt), and so as the mission has it. Assumes nothing.
 use Prim.Native.Nat.{ℕ}
-use mathlib.Core.Path.{_≡_, refl, sym, _∙_, subst}
+use mathlib.Core.Path.{_≡_, sym, _∙_, subst}
 use mathlib.Core.List.{List, [], _∷_, map, append-nil}
 use lib.ListN.{length}
 use Rattle.config.specs.declared.Config.{Config}

@@ -1,8 +1,6 @@
 -- Blocks of one size are blocks whose sizes never rise; and where such blocks end, any smaller one can start. Assumes nothing.
 use Prim.Native.Nat.{ℕ, zero, suc, _+_, _-_, _*_, _^_, _≤_, _<_}
-use mathlib.Core.Bool.{Bool}
-use mathlib.Core.Path.{_≡_, refl, sym, _∙_, ap}
-use mathlib.Core.List.{List, _∷_}
+use mathlib.Core.Path.{_≡_, _∙_}
 use native.Mathlib.Nat.{add-mul}
 use native.Mathlib.Omega.{arith}
 use lib.ListN.{length}
@@ -10,10 +8,9 @@ use Rattle.block_value.specs.Value.{sizeOf}
 use Rattle.block_value.proofs.Laws.{size-smaller, size-least}
 use Rattle.negotiation.specs.Negotiation.{requestBlock}
 use Rattle.negotiation.specs.declared.MaybeBlock.the-variants.{Given}
-use Rattle.config.specs.declared.Config.{Config}
 use Rattle.config.specs.Mode.{nums}
 use Rattle.block_state.specs.Message.{Request}
-use Rattle.demands.specs.Demand3.{Sent, block, Blocks, Demand3}
+use Rattle.demands.specs.Demand3.{block, Demand3}
 use Rattle.demands.specs.Falling.{startOf, StartsAt, AnySmallerStarts, LeavesRoom, OneSize, Extends, Demand3Falling}
 use Rattle.demands.proofs.Push.{each-map}
 

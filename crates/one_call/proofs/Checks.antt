@@ -6,12 +6,13 @@ use mathlib.Core.Logic.{inl, inr, ⊎-elim}
 use native.Mathlib.Omega.{arith}
 use lib.Dec.{leb, ltb, eqb}
 use borrow.Author.Tests.{not-true, not-false, ltb-true, lt-ltb, leb-true, leb-false, le-leb, eqb-true, eqb-false, eq-eqb, ne-eqb}
-use Rattle.pieces.proofs.Tests.{and-left, and-right, by-cases, on-test, clash-of, refute}
+use Rattle.pieces.proofs.Tests.{and-left, and-right, by-cases, clash-of, refute}
 use Rattle.block_value.specs.Value.{blockSize, blockStart}
 use Rattle.block_value.specs.declared.BlockValue.{BlockValue}
 use Rattle.block_value.proofs.Laws.{size-least}
 use Rattle.block_state.specs.declared.Assembled.{Assembled}
 use Rattle.request_block1.specs.Block1.{badForm, notNext, lengthMet}
+use Rattle.request_block1.proofs.Taking.{met-afresh, met-all}
 use Rattle.one_call.specs.Strict.{BadlyFormed, Misplaced}
 
 pub and-none : (a b : Bool) → b ≡ false → (a && b) ≡ false
@@ -105,15 +106,13 @@ starts-first b = of (b .num) (blockSize b) (size-least (b .«size_exponent»))
 
 -- all that is assembled, unless strict mode starts afresh over something
 pub meets-all : (strict : Bool) (a : Assembled) (b : BlockValue) → (strict ≡ true → b .num ≡ 0 → a .len ≡ 0) → lengthMet strict a b ≡ a .len
-unfolding lengthMet
 meets-all strict a b none =
-    on-test (λ n. n ≡ a .len) (strict && eqb (b .num) 0)
-    (λ y. rw (none (and-left _ _ y) (eqb-true (b .num) 0 (and-right strict _ y)))) (λ _. refl)
+    by-cases (strict && eqb (b .num) 0)
+    (λ y. met-afresh strict a b y ∙ sym (none (and-left _ _ y) (eqb-true (b .num) 0 (and-right strict _ y)))) (met-all strict a b)
 
 pub meets-afresh : (strict : Bool) (a : Assembled) (b : BlockValue) → b .num ≡ 0 → (strict ≡ false → a .len ≡ 0) → lengthMet strict a b ≡ 0
-unfolding lengthMet
-meets-afresh true a b first none = rw (eq-eqb (b .num) 0 first)
-meets-afresh false a b first none = none refl
+meets-afresh true a b first none = met-afresh true a b (eq-eqb (b .num) 0 first)
+meets-afresh false a b first none = met-all false a b refl ∙ none refl
 
 -- where strict mode lets a block pass, that is where it starts: block 0 starts afresh, and any other where the assembly ends
 pub meets-start : (a : Assembled) (b : BlockValue) → notNext a b ≡ false → lengthMet true a b ≡ blockStart b

@@ -100,6 +100,16 @@ taken-at-most c a b p most h =
     spliced (splice.Body n) e true = omega (arith, taken-is _ _ _ _ _ _ e .1)
     spliced (splice.Body n) e false = omega (arith, taken-is _ _ _ _ _ _ e .1)
 
+-- ---- the length that a block meets, by the test
+
+pub met-afresh : (strict : Bool) (a : Assembled) (b : BlockValue) → (strict && eqb (b .num) 0) ≡ true → lengthMet strict a b ≡ 0
+unfolding lengthMet
+met-afresh strict a b first = rw first
+
+pub met-all : (strict : Bool) (a : Assembled) (b : BlockValue) → (strict && eqb (b .num) 0) ≡ false → lengthMet strict a b ≡ a .len
+unfolding lengthMet
+met-all strict a b other = rw other
+
 -- ---- refusal 6 is plain mode's alone: strict mode's next block ends at most 2,048 past what is assembled
 
 pub strict-is-near : (a : Assembled) (b : BlockValue) → notNext a b ≡ false → blockStart b + blockSize b - lengthMet true a b ≤ 16384
