@@ -31,7 +31,7 @@ extern "C" {
 /* How the handler is set up. Another `upload` or `response` needs a fresh table: the pieces of the memories lie elsewhere then. Another mode needs none, and each
  * call goes by its own: a Block2 option that a strict call recorded, with a num above 65535, is refusal 5 in a plain response call. */
 struct block_handler_config {
-    bool strict;       /* false: plain mode, as the Rust answers. true: only the next block is taken, and all but the last are full; block 0 starts afresh. See below. */
+    bool strict;       /* false: plain mode, as the Rust answers. true: only the next block is taken, no larger than the one before, and all but the last are full; block 0 starts afresh. See below. */
     size_t limit;      /* T, the most bytes of a message: 1 to 65535. */
     uint64_t lifetime; /* Milliseconds that a key lives after its last call: 1 to 4294967295. */
     size_t upload;     /* U, the length of one piece of the upload memory: 16 to 16777216. The memory is 16 * U long. */
@@ -135,7 +135,7 @@ enum block_handler_refusal {
     BLOCK_HANDLER_JUMP = 6,          /* The block ends more than 16,384 bytes past what is assembled (plain mode). */
     BLOCK_HANDLER_PIECE = 7,         /* The piece is too small for the body or the response. */
     BLOCK_HANDLER_PAST_THE_END = 8,  /* The chunk asked for is past the end. A request's Block2 is recorded, and a body completed in it is gone. */
-    BLOCK_HANDLER_NOT_NEXT = 9,      /* Not the next block (strict mode). */
+    BLOCK_HANDLER_NOT_NEXT = 9,      /* Not the next block: it starts elsewhere than where the assembled bytes end, or is larger than the last one taken (strict mode). */
     BLOCK_HANDLER_BAD_FORM = 10      /* A block of a wrong form (strict mode). */
 };
 
