@@ -6,6 +6,7 @@ use mathlib.Core.Logic.{inr}
 use mathlib.Core.List.{_∷_, []}
 use native.Mathlib.Omega.{arith}
 use Rattle.config.proofs.Mode.{nums-least}
+use Rattle.apart.specs.Answers.{continue, refusal}
 use Rattle.demands.specs.Demand3.{Granted}
 use Rattle.demands.specs.Falling.{FallingBlocks, Extends, Demand3Falling}
 use Rattle.demands.proofs.Falling.{extends}
@@ -95,8 +96,8 @@ can-fall =
 refuses-second : Demand3Falling oneSizeOnly → ⊥
 unfolding Demand3Falling calls
 refuses-second d =
-    let h = d (narrow true) lent key falling fallFirst fallRest fallLater (blocks-fall true) (given-fall true) in
-    let z : _≡_ {A = ℕ} 0 1 = cc (h .1 .0) in
+    let second : refusal ≡ continue = d (narrow true) lent key falling fallFirst fallRest fallLater (blocks-fall true) (given-fall true) .1 .0 in
+    let z : _≡_ {A = ℕ} 0 1 = cc second in
     omega arith
 
 pub falling-excluded : FallingExcluded
