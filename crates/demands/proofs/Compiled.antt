@@ -4,8 +4,9 @@ use mathlib.Core.List.{List, [], _∷_}
 use Rattle.call.specs.Call.{call}
 use Rattle.one_call.specs.Handler.{Handler}
 use Rattle.demands.specs.Demand3.{Seen, seen, callOn, Demand3}
+use Rattle.demands.specs.Falling.{Demand3Falling}
 use Rattle.demands.specs.Compiled.{RequestEnsures, ResponseEnsures, BodyEnsures, RequestAsks, ResponseAsks, BodyAsks, KeepsContract, OfAllThatKeep, RunsAreCalls, Demand3OfRuns}
-use Rattle.demands.proofs.Demand3.{demand3}
+use Rattle.demands.proofs.Demand3.{demand3, demand3-falling}
 
 -- ---- the contracts' own statements
 
@@ -48,6 +49,6 @@ runs-are-calls c w (q ∷ calls) (d ∷ results) r =
     rw (← e) (ap (λ (l : List Seen). seen q d ∷ l) (rest .0), rest .1)
 
 pub runs-demand3 : Demand3OfRuns
-unfolding Demand3OfRuns RunsAreCalls Demand3
+unfolding Demand3OfRuns RunsAreCalls Demand3Falling
 runs-demand3 c w k x first rest later results b g r =
-    rw (runs-are-calls c w (callOn k first ∷ later) results r .0) (demand3 c w k x first rest later b g)
+    rw (runs-are-calls c w (callOn k first ∷ later) results r .0) (demand3-falling c w k x first rest later b g)

@@ -19,7 +19,8 @@ use Rattle.call.specs.Contract.{world, requestCall, responseCall, Meant}
 use Rattle.block_handler.proofs.intercept_request
 use Rattle.block_handler.proofs.intercept_response
 use Rattle.one_call.specs.Handler.{Handler}
-use Rattle.demands.specs.Demand3.{Seen, seen, run, after, seenOn, Sent, callOn, joined, Blocks, Granted, HandsOn}
+use Rattle.demands.specs.Demand3.{Seen, seen, run, after, seenOn, Sent, callOn, joined, Granted, HandsOn}
+use Rattle.demands.specs.Falling.{FallingBlocks}
 
 -- ---- What the compiled calls ensure, and that they ask nothing
 
@@ -99,9 +100,9 @@ RunsAreCalls =
     (c : Config) (w : World) (calls : List Call) (results : List Done) → Ran c w calls results
     → (seenOf calls results ≡ run call c w calls) × (endOf w results ≡ after call c w calls)
 
--- Demand 3 of every such run.
+-- Demand 3 of every such run, also where sizes fall. (Blocks of one size are such blocks: `OneSize` in Falling.antt.)
 unfoldable pub Demand3OfRuns : Type 0
 Demand3OfRuns =
-    (c : Config) (w : World) (k : Name) (x : ℕ) (first : Sent) (rest : List Sent) (later : List Call) (results : List Done)
-    → Blocks c x first rest → Granted c w k first rest later → Ran c w (callOn k first ∷ later) results
+    (c : Config) (w : World) (k : Name) (x : ℕ → ℕ) (first : Sent) (rest : List Sent) (later : List Call) (results : List Done)
+    → FallingBlocks c x first rest → Granted c w k first rest later → Ran c w (callOn k first ∷ later) results
     → HandsOn (joined first rest) (seenOn k (seenOf (callOn k first ∷ later) results))
