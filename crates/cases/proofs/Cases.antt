@@ -30,7 +30,10 @@ cases-hold false =
 
 pub strict-cases : AllSay strictCases
 unfolding steps
-strict-cases = (refl, (refl, (refl, (refl, (refl, (refl, (refl, (refl, (refl, (refl, (refl, (refl, (refl, (refl, (refl, (refl, (refl, (refl, (refl, (refl, (refl, tt)))))))))))))))))))))
+strict-cases =
+    halves 12 strictCases
+    (refl, (refl, (refl, (refl, (refl, (refl, (refl, (refl, (refl, (refl, (refl, (refl, tt))))))))))))
+    (refl, (refl, (refl, (refl, (refl, (refl, (refl, (refl, (refl, (refl, (refl, (refl, tt))))))))))))
 
 pub edge-cases : AllSay edgeCases
 unfolding calls

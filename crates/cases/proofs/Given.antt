@@ -1,5 +1,5 @@
 -- What the statements ask for can be given, by computation. Assumes nothing.
-use Prim.Native.Nat.{ℕ, zero, suc, _+_, _≤_, _<_}
+use Prim.Native.Nat.{ℕ, _+_, _≤_, _<_}
 use mathlib.Core.Bool.{Bool, true, false, _&&_, false≢true}
 use mathlib.Core.Path.{_≡_, refl, sym, _∙_, ap, subst}
 use mathlib.Core.Logic.{inl, inr}
@@ -10,8 +10,6 @@ use lib.ListN.{length, replicate}
 use lib.Dec.{ltb}
 use borrow.Author.Tests.{ltb-true}
 use Rattle.pieces.proofs.Tests.{and-left, and-right}
-use Rattle.config.specs.declared.Config.{Config}
-use Rattle.config.proofs.Mode.{nums-least}
 use Rattle.block_value.specs.Value.{sizeOf}
 use Rattle.negotiation.specs.Negotiation.{negotiated}
 use Rattle.negotiation.specs.declared.MaybeBlock.the-variants.{Given}
@@ -20,21 +18,22 @@ use Rattle.block_state.specs.Message.{request, WhatBytes}
 use Rattle.apart.specs.Answers.{said, served}
 use Rattle.keys.specs.Keys as keys
 use Rattle.answer_sources.specs.Parts.{servedChunk}
-use Rattle.call.specs.Call.{World, Call, call, withinLimits}
+use Rattle.call.specs.Call.{Call, call, withinLimits}
 use Rattle.one_call.specs.Strict.{BadlyFormed, PassesFive}
-use Rattle.demands.specs.Demand3.{Sent, callOn, block, All, AllBytes, Blocks, Granted}
-use Rattle.demands.specs.Falling.{FallingBlocks}
+use Rattle.demands.specs.Demand3.{Sent, callOn, block, All, AllBytes, Blocks}
 use Rattle.demands.specs.Clocks.{requestsOn, GrantedOwn}
-use Rattle.demands.proofs.Runs.{only-asks, own-requests, rising-own}
+use Rattle.demands.proofs.Runs.{rising-own}
 use Rattle.demands.proofs.Falling.{one-size}
 use Rattle.many_calls.specs.Twice.{SentAgain}
 use Rattle.many_calls.specs.Crossing.{among, AllAmong, counted, callsOf, FromFresh, Sends}
 use Rattle.many_calls.specs.Pages.{lastStored}
 use Rattle.cases.specs.Shams.{config, fresh, key, sent, firstBlock, lastBlock, later}
-use Rattle.cases.specs.Given.{large, lentWorld, full, sixteenMore, farAgain, keyOfByte, firstOf, nextOf, singleOf, halved, pushesOf, onEach, bytes, backwards, refused, answering, crossing}
+use Rattle.cases.specs.Given.{large, lentWorld, full, sixteenMore, farAgain, keyOfByte, singleOf, pushesOf, onEach, bytes, backwards, refused, answering, crossing}
 use Rattle.cases.specs.Given.{EachSends, goesBack, page, storing, asked, AllCanBeGiven}
 use Rattle.cases.proofs.Computes.{values, limits, calls}
-use Rattle.cases.proofs.Shams.{fresh-free, fresh-nothing, reads, one-block, can-be-given}
+use Rattle.cases.proofs.Shams.{fresh-free, fresh-nothing, one-block, own, can-be-given}
+use Rattle.cases.proofs.Falling.{blocks-fall}
+use Rattle.cases.specs.Falling.{narrow, lent, first64, next32, last16}
 
 -- ---- what holds of every call, by one test
 
@@ -58,41 +57,18 @@ bytes-both (q ∷ a) b h k = (h .0, bytes-both a b (h .1) k)
 -- ---- sixteen keys
 
 abbrev counting : List Call
-counting = onEach firstOf bytes ++ (onEach nextOf backwards ++ (answering ++ onEach singleOf bytes))
+counting = onEach (first64 5) bytes ++ (onEach (next32 8) backwards ++ (onEach (last16 9) bytes ++ (answering ++ onEach singleOf bytes)))
 
 -- all count but the two that are refused
 counted-is : counted 0 crossing ≡ counting
 unfolding limits
 counted-is = refl
 
--- 32 bytes, and nothing more in a block of 16
-falls : (strict : Bool) (b : ℕ) → FallingBlocks (config strict) halved (firstOf b) (nextOf b ∷ [])
-unfolding values
-falls strict b =
-    let few = nums-least strict in
-    record {
-      numbered = (
-        record { num = 0; starts = refl; count = omega arith; reads = reads (config strict) (0x09 ∷ []) (omega arith) },
-        record { num = 2; starts = refl; count = omega arith; reads = reads (config strict) (0x20 ∷ []) (omega arith) },
-      );
-      size = omega arith;
-      falls = λ j h. falling j;
-      full = (refl, omega arith);
-      alone = (refl, refl);
-      room = (omega arith, omega arith);
-      fits = omega arith;
-      prompt = (omega arith, tt);
-    }
-  where
-    falling : (j : ℕ) → halved (suc j) ≤ halved j
-    falling zero = omega arith
-    falling (suc j) = omega arith
-
-sends : (strict : Bool) (b : ℕ) → requestsOn (keyOfByte b) counting ≡ callsOf (keyOfByte b) (pushesOf b) → Sends (config strict) (keyOfByte b) crossing (pushesOf b)
+sends : (strict : Bool) (b : ℕ) → requestsOn (keyOfByte b) counting ≡ callsOf (keyOfByte b) (pushesOf b) → Sends (narrow strict) (keyOfByte b) crossing (pushesOf b)
 sends strict b own =
     record {
       own = ap (requestsOn (keyOfByte b)) counted-is ∙ own;
-      proper = (falls strict b, (one-size (config strict) 0 _ _ (one-block (config strict) (omega arith) 10 (b ∷ b ∷ []) (omega arith) (omega arith)), tt));
+      proper = (blocks-fall strict 5 8 9 b b b (omega arith) (omega arith), (one-size (narrow strict) 0 _ _ (one-block (narrow strict) (omega arith) 10 (b ∷ b ∷ []) (omega arith) (omega arith)), tt));
     }
 
 -- ---- seventeen blocks
@@ -140,24 +116,13 @@ far-granted u d hu hd =
     record {
       entry = inr (fresh-free large (lentWorld u d) 1 refl);
       nothing = fresh-nothing large (lentWorld u d) 1 key refl;
-      calls = record { limits = within u d hu hd; sixteen = refl; bytes = far-bytes };
+      within = record { limits = within u d hu hd; sixteen = refl; bytes = far-bytes };
       own = refl;
       clock = rising-own key 0 (map (callOn key) (full 0x0E ∷ sixteenMore))
           (omega arith, (t, (t, (t, (t, (t, (t, (t, (t, (t, (t, (t, (t, (t, (t, (t, (t, tt)))))))))))))))));
     }
 
 -- ---- all of them
-
--- a push as the mission has it is one as Clocks.antt of demands has it
-pub own : (c : Config) (w : World) (first : Sent) (rest : List Sent) (calls : List Call) → Granted c w key first rest calls → GrantedOwn c w key first rest calls
-own c w first rest calls g =
-    record {
-      entry = g .entry;
-      nothing = g .nothing;
-      calls = g .calls;
-      own = own-requests key calls (only-asks key calls rest (g .own)) ∙ g .own;
-      clock = rising-own key (w .table .clock) (callOn key first ∷ calls) (g .clock);
-    }
 
 -- a marked block 1 of n bytes passes checks 1 to 5, where its limits and its negotiation do
 abbrev marked : ℕ → Sent
@@ -197,18 +162,21 @@ unfolding calls
 chunk-it true = refl
 chunk-it false = refl
 
-crosses : (strict : Bool) → FromFresh (config strict) fresh (map keyOfByte bytes) crossing
+crosses : (strict : Bool) → FromFresh (narrow strict) lent (map keyOfByte bytes) crossing
 unfolding limits every
 crosses strict =
+    let singles : List Call = answering ++ onEach singleOf bytes in
+    let lasts : List Call = onEach (last16 9) bytes ++ singles in
+    let nexts : List Call = onEach (next32 8) backwards ++ lasts in
     record {
       start = record { table = refl; config = refl; memories = refl };
       sixteen = omega arith;
       over = subst (AllAmong (map keyOfByte bytes)) (sym counted-is) (every-all (λ q. among (q .key) (map keyOfByte bytes)) counting refl);
-      bytes = bytes-both (onEach firstOf bytes) (refused ++ (onEach nextOf backwards ++ (answering ++ onEach singleOf bytes)))
-          (bytes-each firstOf (λ b. ((omega arith, tt), tt)) bytes)
-          (bytes-both refused (onEach nextOf backwards ++ (answering ++ onEach singleOf bytes)) ((tt, tt), (((omega arith, tt), tt), tt))
-          (bytes-both (onEach nextOf backwards) (answering ++ onEach singleOf bytes) (bytes-each nextOf (λ b. ((omega arith, tt), tt)) backwards)
-          (tt, bytes-each singleOf (λ b. (tt, tt)) bytes)));
+      bytes = bytes-both (onEach (first64 5) bytes) (refused ++ nexts) (bytes-each (first64 5) (λ b. ((omega arith, tt), tt)) bytes)
+          (bytes-both refused nexts ((tt, tt), (((omega arith, tt), tt), tt))
+          (bytes-both (onEach (next32 8) backwards) lasts (bytes-each (next32 8) (λ b. ((omega arith, tt), tt)) backwards)
+          (bytes-both (onEach (last16 9) bytes) singles (bytes-each (last16 9) (λ b. ((omega arith, tt), tt)) bytes)
+          (tt, bytes-each singleOf (λ b. (tt, tt)) bytes))));
     }
 
 -- each key's own calls that count are its two pushes
@@ -234,8 +202,8 @@ goes-back strict =
     record {
       entry = g .entry;
       nothing = g .nothing;
-      calls = record {
-        limits = g .calls .limits;
+      within = record {
+        limits = g .within .limits;
         sixteen = refl;
         bytes = (((omega arith, tt), tt), (((omega arith, tt), tt), (((omega arith, tt), tt), (((omega arith, tt), tt), tt))));
       };

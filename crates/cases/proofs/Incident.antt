@@ -46,7 +46,7 @@ pub starts-afresh : StartsAfresh call
 unfolding StartsAfresh Demand3Falling
 starts-afresh c w k x first rest later strict b o p own rise =
     demand3-falling c w k x first rest later b
-    (record { entry = inl o; nothing = λ plain. absurd (clash-of (c .strict) strict plain); calls = p; own = own; clock = rise })
+    (record { entry = inl o; nothing = λ plain. absurd (clash-of (c .strict) strict plain); within = p; own = own; clock = rise })
 
 -- ---- plain mode
 
@@ -154,7 +154,7 @@ story =
       strict = (refl, (refl, refl));
       live = (0, omega arith, refl, refl);
       blocks = one-size (shop true) 0 _ _ (two-blocks (shop true) (omega arith) 6 7 (replicate 16 2) (replicate 16 3) refl (omega arith) (omega arith) (omega arith));
-      calls = record { limits = refl; sixteen = refl; bytes = (((omega arith, tt), tt), (((omega arith, tt), tt), tt)) };
+      within = record { limits = refl; sixteen = refl; bytes = (((omega arith, tt), tt), (((omega arith, tt), tt), tt)) };
       own = refl;
       clock = (omega arith, (omega arith, tt));
     }

@@ -2,6 +2,6 @@ pub mod Computes
 pub mod Cases
 pub mod Incident
 pub mod Shams
-pub mod Given
 pub mod Falling
+pub mod Given
 pub mod Longest

@@ -124,7 +124,7 @@ module _ (c : Config) (x : ℕ) where
               granted = record {
                 entry = inr (fresh-free c (freshFor c) 0 refl);
                 nothing = fresh-nothing c (freshFor c) 0 key refl;
-                calls = record { limits = within; sixteen = refl; bytes = all-bytes 0 left (omega arith) };
+                within = record { limits = within; sixteen = refl; bytes = all-bytes 0 left (omega arith) };
                 own = own-blocks (following 0 left);
                 clock = (omega arith, rising 0 left);
               };

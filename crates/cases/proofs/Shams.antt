@@ -29,10 +29,11 @@ use Rattle.entries.specs.declared.Entry.{Entry}
 use Rattle.entries.specs.Entries.{free, live}
 use Rattle.answer_sources.specs.Parts.{partOf, bodyOf}
 use Rattle.block_table.specs.Table.{freshTable}
-use Rattle.call.specs.Call.{World}
+use Rattle.call.specs.Call.{World, Call}
 use Rattle.one_call.specs.Handler.{Handler, entryAt}
 use Rattle.demands.specs.Demand3.{Sent, HasFree, HasLive, NothingInPlain, Blocks, Granted, Demand3, callOn, block}
-use Rattle.demands.proofs.Runs.{fresh-entry}
+use Rattle.demands.specs.Clocks.{GrantedOwn}
+use Rattle.demands.proofs.Runs.{fresh-entry, only-asks, own-requests, rising-own}
 use Rattle.cases.specs.Shams.{config, fresh, key, sent, firstBlock, lastBlock, later, wide, used, wideFirst, wideSecond, wideLast, CanBeGiven, Excluded, Exist}
 use Rattle.cases.proofs.Computes.{values, limits, calls}
 
@@ -88,7 +89,7 @@ given-one strict =
     record {
       entry = inr (fresh-free (config strict) fresh 5 refl);
       nothing = fresh-nothing (config strict) fresh 5 key refl;
-      calls = record { limits = refl; sixteen = refl; bytes = ((tt, tt), tt) };
+      within = record { limits = refl; sixteen = refl; bytes = ((tt, tt), tt) };
       own = refl;
       clock = (omega arith, tt);
     }
@@ -102,7 +103,7 @@ given-two strict =
     record {
       entry = inr (fresh-free (config strict) fresh 5 refl);
       nothing = fresh-nothing (config strict) fresh 5 key refl;
-      calls = record {
+      within = record {
         limits = refl;
         sixteen = refl;
         bytes = (((omega arith, tt), tt), (((omega arith, tt), tt), (((omega arith, tt), tt), (tt, (((omega arith, tt), tt), (((omega arith, tt), tt), tt))))));
@@ -129,7 +130,7 @@ given-three strict =
     record {
       entry = inl (has-live strict);
       nothing = λ plain i b h l. none-used i b;
-      calls = record { limits = refl; sixteen = refl; bytes = (((omega arith, tt), tt), (((omega arith, tt), tt), (((omega arith, tt), tt), tt))) };
+      within = record { limits = refl; sixteen = refl; bytes = (((omega arith, tt), tt), (((omega arith, tt), tt), (((omega arith, tt), tt), tt))) };
       own = refl;
       clock = (omega arith, (omega arith, (omega arith, tt)));
     }
@@ -146,6 +147,17 @@ blocks-three strict =
       room = (omega arith, (omega arith, omega arith));
       fits = omega arith;
       prompt = (omega arith, (omega arith, tt));
+    }
+
+-- a push as the mission has it is one as Clocks.antt of demands has it
+pub own : (c : Config) (w : World) (first : Sent) (rest : List Sent) (calls : List Call) → Granted c w key first rest calls → GrantedOwn c w key first rest calls
+own c w first rest calls g =
+    record {
+      entry = g .entry;
+      nothing = g .nothing;
+      within = g .within;
+      own = own-requests key calls (only-asks key calls rest (g .own)) ∙ g .own;
+      clock = rising-own key (w .table .clock) (callOn key first ∷ calls) (g .clock);
     }
 
 pub can-be-given : CanBeGiven
@@ -222,7 +234,7 @@ excluded =
           ∙ shown-zero (h (config b) fresh (callOn key alone) .answer) (7 ∷ []) 512 (handed-one h d b) in
           omega arith;
       handsAtZero = λ b h r d.
-          let z : _≡_ {A = ℕ} 0 1 = cc (continued h d b, r (config b) fresh key firstBlock true 0 refl (given-two b .calls .limits) (first-reads (config b))) in
+          let z : _≡_ {A = ℕ} 0 1 = cc (continued h d b, r (config b) fresh key firstBlock true 0 refl (given-two b .within .limits) (first-reads (config b))) in
           omega arith;
     }
 

@@ -1,5 +1,6 @@
--- What the statements of Twice.antt, Crossing.antt and Pages.antt of many_calls, Clocks.antt of demands and Strict.antt of one_call ask for can be given, in both modes.
-use Prim.Native.Nat.{ℕ, zero, suc}
+-- What the statements of Twice.antt, Crossing.antt and Pages.antt of many_calls and Clocks.antt of demands ask for can be given, in both modes, and so can what Strict.antt of
+-- one_call asks for (more of it in Falling.antt).
+use Prim.Native.Nat.{ℕ}
 use mathlib.Core.Bool.{Bool, true, false}
 use mathlib.Core.List.{List, [], _∷_, _++_, map}
 use mathlib.Core.Path.{_≡_}
@@ -19,6 +20,7 @@ use Rattle.many_calls.specs.Twice.{SentAgain}
 use Rattle.many_calls.specs.Crossing.{FromFresh, Transfer, Sends}
 use Rattle.many_calls.specs.Pages.{Page, lastStored}
 use Rattle.cases.specs.Shams.{config, fresh, key, sent, firstBlock, lastBlock, later}
+use Rattle.cases.specs.Falling.{narrow, lent, falling, first64, next32, last16}
 
 -- ---- The last block sent twice: of two blocks, with other keys' calls between them; of one; and of seventeen of 1,024 bytes, where refusal 6 comes
 
@@ -46,7 +48,7 @@ sixteenMore =
 abbrev pub farAgain : Sent
 farAgain = sent 2 (0x01 ∷ 0x06 ∷ []) (9 ∷ [])
 
--- ---- Sixteen keys, each with a push of two blocks, whose size falls from 32 to 16 and whose last block is empty, and then one of a single block
+-- ---- Sixteen keys, each with a push whose size falls twice and then one of a single block
 
 abbrev pub bytes : List ℕ
 bytes = 1 ∷ 2 ∷ 3 ∷ 4 ∷ 5 ∷ 6 ∷ 7 ∷ 8 ∷ 9 ∷ 10 ∷ 11 ∷ 12 ∷ 13 ∷ 14 ∷ 15 ∷ 16 ∷ []
@@ -57,22 +59,12 @@ backwards = 16 ∷ 15 ∷ 14 ∷ 13 ∷ 12 ∷ 11 ∷ 10 ∷ 9 ∷ 8 ∷ 7 ∷ 6
 abbrev pub keyOfByte : ℕ → Name
 keyOfByte b = b ∷ []
 
-abbrev pub firstOf : ℕ → Sent
-firstOf b = sent 5 (0x09 ∷ []) (replicate 32 b)
-
-abbrev pub nextOf : ℕ → Sent
-nextOf b = sent 9 (0x20 ∷ []) []
-
 abbrev pub singleOf : ℕ → Sent
 singleOf b = sent 10 [] (b ∷ b ∷ [])
 
-abbrev pub halved : ℕ → ℕ
-halved zero = 1
-halved (suc j) = 0
-
 abbrev pub pushesOf : ℕ → List Transfer
 pushesOf b =
-    record { exponent = halved; first = firstOf b; rest = nextOf b ∷ [] }
+    record { exponent = falling; first = first64 5 b; rest = next32 8 b ∷ last16 9 b ∷ [] }
     ∷ record { exponent = λ j. 0; first = singleOf b; rest = [] }
     ∷ []
 
@@ -87,13 +79,13 @@ refused = callOn [] (sent 6 [] []) ∷ callOn (1 ∷ []) (sent 3 (0x08 ∷ []) [
 abbrev pub answering : List Call
 answering = record { time = 9; key = keyOfByte 1; what = response (record { bare = 36; own = false; head = []; payload = 79 ∷ 75 ∷ [] }) } ∷ []
 
--- All first blocks; those two; all second blocks, the other way round; that answer; all single ones.
+-- All first blocks; those two; all second blocks, the other way round; all last ones; that answer; all single ones.
 abbrev pub crossing : List Call
-crossing = onEach firstOf bytes ++ (refused ++ (onEach nextOf backwards ++ (answering ++ onEach singleOf bytes)))
+crossing = onEach (first64 5) bytes ++ (refused ++ (onEach (next32 8) backwards ++ (onEach (last16 9) bytes ++ (answering ++ onEach singleOf bytes))))
 
 abbrev pub EachSends : Bool → List ℕ → Type 0
 EachSends strict [] = Unit {0}
-EachSends strict (b ∷ rest) = Sends (config strict) (keyOfByte b) crossing (pushesOf b) × EachSends strict rest
+EachSends strict (b ∷ rest) = Sends (narrow strict) (keyOfByte b) crossing (pushesOf b) × EachSends strict rest
 
 -- ---- Another lane's clock goes back between the blocks
 
@@ -124,7 +116,7 @@ pub record AllCanBeGiven : Type 0 where
   pub once : (strict : Bool) → SentAgain (config strict) fresh key (λ j. 0) (sent 5 [] (7 ∷ [])) [] [] oneAgain
   pub far : (u d : List ℕ) → length u ≡ 262160 → length d ≡ 256
       → SentAgain large (lentWorld u d) key (λ j. 6) (full 0x0E) sixteenMore (map (callOn key) sixteenMore) farAgain
-  pub cross : (strict : Bool) → FromFresh (config strict) fresh (map keyOfByte bytes) crossing
+  pub cross : (strict : Bool) → FromFresh (narrow strict) lent (map keyOfByte bytes) crossing
   pub each : (strict : Bool) → EachSends strict bytes
   pub back : (strict : Bool) → GrantedOwn (config strict) fresh key firstBlock (lastBlock ∷ []) goesBack
   pub five : PassesFive (config true) fresh (callOn key bothFaults) (bothFaults .message) (block 1 true 0)

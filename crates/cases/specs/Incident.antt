@@ -22,7 +22,7 @@ use Rattle.entries.specs.Entries.{inUse}
 use Rattle.block_table.specs.Table.{freshTable, tableWith}
 use Rattle.call.specs.Call.{World, Call, call}
 use Rattle.one_call.specs.Handler.{Handler}
-use Rattle.demands.specs.Demand3.{run, callsOn, seenOn, Sent, callOn, block, joined, Rising, HasLive, Calls, HandsOn}
+use Rattle.demands.specs.Demand3.{run, callsOn, seenOn, Sent, callOn, block, joined, Rising, HasLive, Within, HandsOn}
 use Rattle.demands.specs.Falling.{FallingBlocks}
 use Rattle.cases.specs.Shams.{sent}
 
@@ -86,7 +86,7 @@ pub record Story : Type 0 where
   -- It is a push as demand 3 has it, on a live entry with bytes assembled: what `StartsAfresh` below asks can be given.
   pub live : HasLive (shop true) cancelled 6 lane
   pub blocks : FallingBlocks (shop true) (λ j. 0) newFirst (newLast ∷ [])
-  pub calls : Calls (shop true) cancelled lane newFirst (callOn lane newLast ∷ [])
+  pub within : Within (shop true) cancelled lane newFirst (callOn lane newLast ∷ [])
   pub own : callsOn lane (callOn lane newLast ∷ []) ≡ callOn lane newLast ∷ []
   pub clock : Rising (cancelled .table .clock) newList
 
@@ -97,6 +97,6 @@ pub record Story : Type 0 where
 unfoldable pub StartsAfresh : Handler → Type 0
 StartsAfresh h =
     (c : Config) (w : World) (k : Name) (x : ℕ → ℕ) (first : Sent) (rest : List Sent) (later : List Call)
-    → c .strict ≡ true → FallingBlocks c x first rest → HasLive c w (first .time) k → Calls c w k first later
+    → c .strict ≡ true → FallingBlocks c x first rest → HasLive c w (first .time) k → Within c w k first later
     → callsOn k later ≡ map (callOn k) rest → Rising (w .table .clock) (callOn k first ∷ later)
     → HandsOn (joined first rest) (seenOn k (run h c w (callOn k first ∷ later)))

@@ -5,6 +5,6 @@ pub mod ModeCases
 pub mod HeldCases
 pub mod Incident
 pub mod Shams
-pub mod Given
 pub mod Falling
+pub mod Given
 pub mod Longest

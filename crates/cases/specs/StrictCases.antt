@@ -23,6 +23,8 @@ strictCases =
     -- L 32 kept at size 16, num 1 of size 32: it starts at L, but its exponent rises. Refusal 9; plain mode takes it.
     answers (step true kept (replicate 64 1) (0x19 ∷ []) (replicate 32 2) .answer) (Refused 9)
     ∷ answers (step false kept (replicate 64 1) (0x19 ∷ []) (replicate 32 2) .answer) (Continue (block 1 false 1))
+    -- Nor is it taken as the last block.
+    ∷ answers (step true kept (replicate 64 1) (0x11 ∷ []) (replicate 4 2) .answer) (Refused 9)
     -- Num 1 of size 16: an earlier offset. Refusal 9; plain mode takes it.
     ∷ answers (step true kept (replicate 64 1) (0x18 ∷ []) (replicate 16 2) .answer) (Refused 9)
     ∷ answers (step false kept (replicate 64 1) (0x18 ∷ []) (replicate 16 2) .answer) (Continue (block 1 false 0))
@@ -48,8 +50,10 @@ strictCases =
     ∷ answers (step true nothing (replicate 64 1) (0x08 ∷ []) (replicate 15 2) .answer) (Refused 10)
     -- Both faults at once: nothing assembled, num 1, marked and short. Refusal 10, not 9.
     ∷ answers (step true nothing (replicate 64 1) (0x18 ∷ []) (replicate 15 2) .answer) (Refused 10)
-    -- "In either mode that of the last block taken": plain mode, too, keeps the exponent of a block of 32 bytes.
+    -- "In either mode that of the last block taken": plain mode, too, keeps the exponent of a block of 32 bytes, of one that rises and of one that falls.
     ∷ number (step false nothing (replicate 64 1) (0x09 ∷ []) (replicate 32 2) .state .assembled .exponent) 1
+    ∷ number (step false kept (replicate 64 1) (0x19 ∷ []) (replicate 32 2) .state .assembled .exponent) 1
+    ∷ number (step false keptLarger (replicate 64 1) (0x28 ∷ []) (replicate 16 2) .state .assembled .exponent) 0
     -- Refusal 9 is 4.08, and 10 is 4.00.
     ∷ number (said (Refused 9) .code) 136
     ∷ number (said (Refused 10) .code) 128

@@ -20,7 +20,7 @@ use Rattle.demands.proofs.Falling.{extends}
 pub pushed : (c : Config) (w : World) (k : Name) (x : ℕ → ℕ) (first : Sent) (rest : List Sent) (later : List Call) → FallingBlocks c x first rest
     → GrantedOwn c w k first rest later → Pushed c w k (lastOf first rest .time) (length (first ∷ rest)) (joined first rest) [] (callOn k first ∷ later)
 pushed c w k x first rest later b g =
-    let p = g .calls in
+    let p = g .within in
     let f = world-fits c w (callOn k first) (p .limits) (p .sixteen) in
     let r = rising-cut k (w .table .clock) [] (callOn k first) later (asks-own k first) (g .clock) in
     let placed = place-first c w k (first .time) f (r .0) (g .entry) in
@@ -46,7 +46,7 @@ stronger h d c w k x first rest later b g =
     record {
       entry = g .entry;
       nothing = g .nothing;
-      calls = g .calls;
+      within = g .within;
       own = own-requests k later only ∙ g .own;
       clock = rising-own k (w .table .clock) (callOn k first ∷ later) (g .clock);
     } in

@@ -45,7 +45,7 @@ use Rattle.call.proofs.Frame.{WorldFits, Took, request-took, call-fits}
 use Rattle.one_call.specs.Handler.{entryAt}
 use Rattle.one_call.proofs.Checks.{NextAt, starts-first}
 use Rattle.demands.specs.Demand3.{Seen, seen, after, Sent, callOn, block, Each, Fills, joined, Prompt, AllBytes, HasLive, HasFree, NothingInPlain, HandsOn, lastOf}
-use Rattle.demands.specs.Falling.{startOf, StartsAt, LeavesRoom, FallingBlocks}
+use Rattle.demands.specs.Falling.{startOf, StartsAt, RoomAsked, FallingBlocks}
 use Rattle.demands.specs.Clocks.{requestsOn, runOn, OwnRising}
 use Rattle.demands.proofs.OwnStep.{unmarked, OneBlock, fills-most, agreed-asked, agreed-first, Meets, meets-first, UnderWay, meets-next, held-after, own-more, own-last, under-way}
 use Rattle.demands.proofs.Runs.{asks-own, all-front, all-behind, after-cut, seen-cut, none-seen, Cut, cut, rising-cut, after-clock}
@@ -343,14 +343,14 @@ abbrev pub BlockAt : Config → (ℕ → ℕ) → ℕ → Bool → Request → T
 BlockAt c x j more r = (num : ℕ) × (num * sizeOf (x j) ≡ startOf x j) × OneBlock c (block num more (x j)) r
 
 block-at : (c : Config) (x : ℕ → ℕ) (j : ℕ) (more : Bool) (r : Request) → x j ≤ 6 → StartsAt c (startOf x j) (x j) more r
-    → Fills more (length (r .payload)) (sizeOf (x j)) → requestBlock c (r .block2) ≡ Absent → LeavesRoom c j (sizeOf (x j)) (r .bare) → BlockAt c x j more r
+    → Fills more (length (r .payload)) (sizeOf (x j)) → requestBlock c (r .block2) ≡ Absent → RoomAsked c j (sizeOf (x j)) (r .bare) → BlockAt c x j more r
 block-at c x zero more r six n full alone room =
     let b : BlockValue = block (n .num) more (x 0) in
     let a = agreed-first c b r (n .reads) six (starts-first b (n .starts)) room in
     (n .num, n .starts, record { size = six; numbered = n .reads; full = full; alone = alone; short = omega arith; reply = a .0; agreed = a .1 })
 block-at c x (suc j) more r six n full alone room =
     let b : BlockValue = block (n .num) more (x (suc j)) in
-    let a = agreed-asked c b r (n .reads) six (omega (arith, n .count, nums-made (c .strict))) (fills-most more _ _ full) room in
+    let a = agreed-asked c b r (n .reads) six (omega (arith, n .limit, nums-made (c .strict))) (fills-most more _ _ full) room in
     (n .num, n .starts, record { size = six; numbered = n .reads; full = full; alone = alone; short = omega arith; reply = unmarked b; agreed = a })
 
 -- what is asked of them, block by block
@@ -359,7 +359,7 @@ each-block c x first rest b = from 0 first rest (b .size) (λ i l h. b .falls i 
   where
     from : (j : ℕ) (s : Sent) (rest : List Sent) → x j ≤ 6 → ((i : ℕ) → j ≤ i → i < j + length rest → x (suc i) ≤ x i)
         → Each (λ j more r. StartsAt c (startOf x j) (x j) more r) j s rest → Each (λ j more r. Fills more (length (r .payload)) (sizeOf (x j))) j s rest
-        → Each (λ j more r. requestBlock c (r .block2) ≡ Absent) j s rest → Each (λ j more r. LeavesRoom c j (sizeOf (x j)) (r .bare)) j s rest → Each (BlockAt c x) j s rest
+        → Each (λ j more r. requestBlock c (r .block2) ≡ Absent) j s rest → Each (λ j more r. RoomAsked c j (sizeOf (x j)) (r .bare)) j s rest → Each (BlockAt c x) j s rest
     from j s [] six falls n f a r = block-at c x j false (s .message) six n f a r
     from j s (t ∷ rest) six falls n f a r = (
       block-at c x j true (s .message) six (n .0) (f .0) (a .0) (r .0),

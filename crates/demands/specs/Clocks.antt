@@ -12,7 +12,7 @@ use Rattle.block_state.specs.Message.{What, request, response}
 use Rattle.keys.specs.Keys.{Name, same}
 use Rattle.call.specs.Call.{World, Call}
 use Rattle.one_call.specs.Handler.{Handler}
-use Rattle.demands.specs.Demand3.{Seen, seen, Sent, callOn, joined, HasLive, HasFree, NothingInPlain, Calls, HandsOn}
+use Rattle.demands.specs.Demand3.{Seen, seen, Sent, callOn, joined, HasLive, HasFree, NothingInPlain, Within, HandsOn}
 use Rattle.demands.specs.Falling.{FallingBlocks, Demand3Falling}
 
 abbrev pub isRequest : What → Bool
@@ -41,7 +41,7 @@ OwnRising k t (q ∷ calls) = (asks k q ≡ true → t ≤ q .time) × OwnRising
 pub record GrantedOwn (c : Config) (w : World) (k : Name) (first : Sent) (rest : List Sent) (later : List Call) : Type 0 where
   pub entry : HasLive c w (first .time) k ⊎ HasFree c w (first .time)
   pub nothing : NothingInPlain c w (first .time) k
-  pub calls : Calls c w k first later
+  pub within : Within c w k first later
   -- The key's requests are the blocks.
   pub own : requestsOn k later ≡ map (callOn k) rest
   -- They are not before the recorded clock, nor before any call ahead of them.

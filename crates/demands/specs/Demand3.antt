@@ -76,7 +76,7 @@ callOn k s = record { time = s .time; key = k; what = request (s .message) }
 abbrev pub block : ℕ → Bool → ℕ → BlockValue
 block j more x = record { num = j; more = more; «size_exponent» = x }
 
--- Something holds of each block: of its number, counted from j, of whether another follows, and of its request.
+-- Something holds of each block: of its place in the list, counted from j, of whether another follows, and of its request.
 abbrev pub Each : (ℕ → Bool → Request → Type 0) → ℕ → Sent → List Sent → Type 0
 Each P j s [] = P j false (s .message)
 Each P j s (t ∷ rest) = P j true (s .message) × Each P (suc j) t rest
@@ -144,7 +144,7 @@ NothingInPlain c w time k =
 -- The client's blocks: `first` and then `rest`, each of 2 to the power x + 4 bytes.
 pub record Blocks (c : Config) (x : ℕ) (first : Sent) (rest : List Sent) : Type 0 where
   -- "Its client sends blocks 0 to n-1 in order, n from 1 to 4096", and "in strict mode .. up to 1,048,576" (document 02), where n is the length of first ∷ rest: at most
-  -- `nums`, which is 4,096, and in strict mode 1,048,576. (It follows from `numbered`, and is stated as the demand states it.)
+  -- `nums`, which is 4,096, and in strict mode 1,048,576. (It follows from `numbered`, an option's bytes being below 256, and is stated as the demand states it.)
   pub count : length (first ∷ rest) ≤ nums (c .strict)
   -- "All .. marked "more" but the last, which is .. unmarked": what the Block1 option of each reads as.
   pub numbered : Each (λ j more r. requestBlock c (r .block1) ≡ Given (block j more x)) 0 first rest
@@ -164,22 +164,24 @@ pub record Blocks (c : Config) (x : ℕ) (first : Sent) (rest : List Sent) : Typ
 
 -- The run is block `first` and then the calls `later`: the rest of the client's blocks, and calls for other keys "between them" (or after the
 -- last). Those are any requests and responses at all, with any numbers and bytes, also such as are refused or start other uploads.
-pub record Calls (c : Config) (w : World) (k : Name) (first : Sent) (later : List Call) : Type 0 where
+
+-- What it keeps to.
+pub record Within (c : Config) (w : World) (k : Name) (first : Sent) (later : List Call) : Type 0 where
   -- Document 01: "the first table and the key's own calls keep to this document's limits": no refusal 1 for the first block, so that the
   -- configuration, both memories, the key and the table are within the limits. (The later blocks have the same key. That their lengths are
-  -- within the limits is not assumed: it follows from `room` and `full`, since T is at most 65,535.)
+  -- within the limits is not assumed: it follows from `room` and `full` of the blocks, since T is at most 65,535.)
   pub limits : withinLimits c w (callOn k first) ≡ true
   -- Granted by what a table and bytes are: a table has sixteen entries, and an option's bytes are below 256.
   pub sixteen : length (w .table .entries) ≡ 16
   pub bytes : AllBytes (callOn k first ∷ later)
 
--- All but the blocks. "In either mode": of the two modes' differences only three come in: `nothing`, how many blocks there may be, and what an option is read as.
+-- All but the blocks.
 pub record Granted (c : Config) (w : World) (k : Name) (first : Sent) (rest : List Sent) (later : List Call) : Type 0 where
   -- "Take a key with a live entry or a free one to take ..
   pub entry : HasLive c w (first .time) k ⊎ HasFree c w (first .time)
   -- .. and, in plain mode, nothing assembled."
   pub nothing : NothingInPlain c w (first .time) k
-  pub calls : Calls c w k first later
+  pub within : Within c w k first later
   -- "With any calls for other keys between them and none other for this one".
   pub own : callsOn k later ≡ map (callOn k) rest
   -- "The clock never goes back": the first block is not before the recorded clock, nor any call before the one that went ahead of it.
@@ -193,6 +195,7 @@ HandsOn bytes [] = ⊥
 HandsOn bytes (s ∷ []) = (said (s .answer) .kind ≡ handed) × (s .shown ≡ bytes)
 HandsOn bytes (s ∷ t ∷ rest) = (said (s .answer) .kind ≡ continue) × HandsOn bytes (t ∷ rest)
 
+-- "In either mode": of the two modes' differences only three come in: `nothing`, how many blocks there may be, and what an option is read as.
 unfoldable pub Demand3 : Handler → Type 0
 Demand3 h =
     (c : Config) (w : World) (k : Name) (x : ℕ) (first : Sent) (rest : List Sent) (later : List Call) → Blocks c x first rest → Granted c w k first rest later

@@ -2,7 +2,7 @@
 -- limit." All is as in Demand3.antt but the client's blocks: `FallingBlocks` stands in place of `Blocks`. One size throughout is its special case (`OneSize`), so that demand 3
 -- follows from it (`Extends`). It holds in either mode: plain mode, too, takes a block that starts where the assembled bytes end, whatever its size.
 use Prim.Native.Nat.{ℕ, zero, suc, _+_, _*_, _≤_, _<_}
-use mathlib.Core.Bool.{Bool}
+use mathlib.Core.Bool.{Bool, true}
 use mathlib.Core.Path.{_≡_}
 use mathlib.Core.List.{List, _∷_}
 use lib.ListN.{length}
@@ -29,23 +29,25 @@ pub record StartsAt (c : Config) (start x : ℕ) (more : Bool) (r : Request) : T
   -- Its num times its own size is where it starts ..
   pub num : ℕ
   pub starts : num * sizeOf x ≡ start
-  -- .. "its num within T-03's limit": below `nums`, which is 1,048,576 in strict mode (and 4,096 in plain mode). (It follows from `reads`, and is stated as the request states it.)
-  pub count : num < nums (c .strict)
+  -- .. "its num within T-03's limit": below `nums`, which is 1,048,576 in strict mode (and 4,096 in plain mode). (It follows from `reads`, an option's bytes being below 256.)
+  pub limit : num < nums (c .strict)
   -- What its Block1 option reads as.
   pub reads : requestBlock c (r .block1) ≡ Given (block num more x)
 
--- There is such a num for every sender that goes smaller: where blocks 0 to j end, none larger than the one before it, a block of any size up to the last one's can start.
+-- Where blocks 0 to j end, none larger than the one before it, a block of any size up to the last one's has a num that takes it there: an offset reached by larger blocks is a
+-- multiple of every smaller size. And that num is within strict mode's limit wherever the largest piece, of 16,777,216 bytes, has room for a byte more.
 abbrev pub AnySmallerStarts : Type 0
 AnySmallerStarts =
-    (x : ℕ → ℕ) (j y : ℕ) → x 0 ≤ 6 → ((i : ℕ) → i < j → x (suc i) ≤ x i) → y ≤ x j → (num : ℕ) × (num * sizeOf y ≡ startOf x (suc j))
+    (x : ℕ → ℕ) (j y : ℕ) → x 0 ≤ 6 → ((i : ℕ) → i < j → x (suc i) ≤ x i) → y ≤ x j
+    → (num : ℕ) × (num * sizeOf y ≡ startOf x (suc j)) × (startOf x (suc j) < 16777216 → num < nums true)
 
 -- ---- The client's blocks
 
--- What a block's message leaves room for. Block 0 "needs only bare + 12 < T": the reply that makes a client go smaller is one to a block that did not leave room for its size.
--- Each later message "leaves room" for its block's size.
-abbrev pub LeavesRoom : Config → ℕ → ℕ → ℕ → Type 0
-LeavesRoom c zero size bare = bare + 12 < c .limit
-LeavesRoom c (suc j) size bare = bare + 12 + size ≤ c .limit
+-- The room that is asked of a block's message. Of block 0's only that bare + 12 < T: the reply that makes a client go smaller is one to a block that did not leave room for its
+-- size. Each later message "leaves room" for its block's size.
+abbrev pub RoomAsked : Config → ℕ → ℕ → ℕ → Type 0
+RoomAsked c zero size bare = bare + 12 < c .limit
+RoomAsked c (suc j) size bare = bare + 12 + size ≤ c .limit
 
 pub record FallingBlocks (c : Config) (x : ℕ → ℕ) (first : Sent) (rest : List Sent) : Type 0 where
   -- Each starts where the one before it ended, all marked "more" but the last, which is unmarked.
@@ -57,7 +59,7 @@ pub record FallingBlocks (c : Config) (x : ℕ → ℕ) (first : Sent) (rest : L
   pub full : Each (λ j more r. Fills more (length (r .payload)) (sizeOf (x j))) 0 first rest
   -- As in demand 3: none carries Block2.
   pub alone : Each (λ j more r. requestBlock c (r .block2) ≡ Absent) 0 first rest
-  pub room : Each (λ j more r. LeavesRoom c j (sizeOf (x j)) (r .bare)) 0 first rest
+  pub room : Each (λ j more r. RoomAsked c j (sizeOf (x j)) (r .bare)) 0 first rest
   -- As in demand 3: the body fits its piece, and each block comes sooner than one lifetime after the last.
   pub fits : length (joined first rest) ≤ c .upload
   pub prompt : Prompt (c .lifetime) (first .time) rest

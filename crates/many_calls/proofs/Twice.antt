@@ -146,13 +146,13 @@ module _ (c : Config) (w : World) (k : Name) (x : ℕ → ℕ) (first : Sent) (r
   ended = pushed c w k x first rest later (a .blocks) (a .granted)
 
   named : keyOk k ≡ true
-  named = key-within c w (callOn k first) (a .granted .calls .limits)
+  named = key-within c w (callOn k first) (a .granted .within .limits)
 
   -- the calls behind the last block are other keys', and leave its entry as it was
   settled : Held c then k (ended .slot) (last .time) × (entryAt then (ended .slot) .state .assembled ≡ assembly 0 0)
   settled =
       let nl = all-behind _ (ended .front) (ended .behind) (subst (All (λ q. q .time ≤ again .time)) (ended .is) (a .clock)) in
-      let ab = all-behind _ (ended .front) (ended .behind) (subst AllBytes (ended .is) (a .granted .calls .bytes)) in
+      let ab = all-behind _ (ended .front) (ended .behind) (subst AllBytes (ended .is) (a .granted .within .bytes)) in
       let u = held-others c k (ended .slot) (last .time) (again .time) (a .soon) (ended .behind) (after call c w (ended .front)) (ended .settled) ab nl (ended .own) in
       subst (λ (v : World). Held c v k (ended .slot) (last .time) × (entryAt v (ended .slot) .state .assembled ≡ assembly 0 0))
       (sym (after-cut call c (ended .front) (ended .behind) w) ∙ ap (after call c w) (sym (ended .is)))
@@ -185,7 +185,7 @@ module _ (c : Config) (w : World) (k : Name) (x : ℕ → ℕ) (first : Sent) (r
   one = its .2
 
   options : WhatBytes (request (again .message))
-  options = rw (a .same) (last-bytes k first rest later (a .granted .own) (a .granted .calls .bytes))
+  options = rw (a .same) (last-bytes k first rest later (a .granted .own) (a .granted .within .bytes))
 
   body-fits : startOf x j + length (again .message .payload) ≤ c .upload
   body-fits =

@@ -1,5 +1,5 @@
 -- SIXTEEN TRANSFERS CROSS. From a fresh table: any calls in any order, so long as those that count are over at most sixteen keys. Take a key whose requests are pushes
--- as demand 3 has them (their sizes may fall), one after another, as many as you like, with its responses anywhere between: each push is answered Continue .., Handed with
+-- as Falling.antt of demands has them, one after another, as many as you like, with its responses anywhere between: each push is answered Continue .., Handed with
 -- exactly its joined blocks. What the other keys' calls are does not matter; if each of the sixteen keys sends pushes, each of the sixteen is served so. In both modes.
 use Prim.Native.Nat.{ℕ, _≤_}
 use mathlib.Core.Bool.{Bool, true, false, cond, _&&_, _||_}
@@ -72,7 +72,7 @@ pub record Transfer : Type 0 where
   pub first : Sent
   pub rest : List Sent
 
--- Each is as demand 3 has it; its sizes may fall.
+-- Each is as Falling.antt of demands has it: its sizes may fall.
 abbrev pub AllProper : Config → List Transfer → Type 0
 AllProper c [] = Unit {0}
 AllProper c (p ∷ rest) = FallingBlocks c (p .exponent) (p .first) (p .rest) × AllProper c rest

@@ -19,7 +19,7 @@ use Rattle.demands.specs.Clocks.{GrantedOwn}
 -- ---- What is given
 
 pub record SentAgain (c : Config) (w : World) (k : Name) (x : ℕ → ℕ) (first : Sent) (rest : List Sent) (later : List Call) (again : Sent) : Type 0 where
-  -- A push as demand 3 has it (its sizes may fall, and other lanes' clocks may go back): block `first`, then the calls `later`, which hold the blocks `rest`, any calls for
+  -- A push as Clocks.antt of demands has it (its sizes may fall, and other lanes' clocks may go back): block `first`, then the calls `later`, which hold the blocks `rest`, any calls for
   -- other keys and any responses on this one, also behind the last.
   pub blocks : FallingBlocks c x first rest
   pub granted : GrantedOwn c w k first rest later

@@ -1,7 +1,7 @@
 -- IN STRICT MODE, WHAT IS HANDED ON IS WHAT WAS TAKEN. In any run from a fresh table, whatever calls stand in it, on any keys and in any order: where a request is answered
 -- Handed, the body that is shown is the payloads of the blocks that were taken for that key from the last block 0 that was taken on, one after another, this one's last.
 -- Nothing else can be in it: no byte of another key, of an earlier body, or of nobody. (Two pushes on one key cannot be told apart but by a block 0: where the second's is
--- lost, its block 1 may follow the first's.)
+-- lost, a block of it that starts where the first's end, and is no larger, may follow those.)
 use Prim.Native.Nat.{ℕ}
 use mathlib.Core.Bool.{true, cond}
 use mathlib.Core.Path.{_≡_}

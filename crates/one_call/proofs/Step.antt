@@ -38,6 +38,7 @@ use Rattle.request_block1.specs.declared.Taken.the-variants as block
 use Rattle.request_block1.specs.Block1.{badForm, notNext, lengthMet, takenAs, taken, pieceTaken}
 use Rattle.request_step.specs.Step.{onTaken, block1Given, onNegotiated, stepRequest}
 use Rattle.request_block1.proofs.Taking.{taken-bad, taken-not-next, taken-next}
+use Rattle.request_block2.specs.Block2.{onward}
 use Rattle.request_block2.proofs.Serving.{onward-absent}
 use Rattle.request_step.proofs.Steps as steps
 use Rattle.response_step.specs.Step.{chunked, onReply, stepResponse}
@@ -152,12 +153,13 @@ module _ (c : Config) (home away : ℕ) (s : BlockState) (u : List ℕ) (r : Req
           pub step-more : b .more ≡ true → step ≡ left (withAssembled s (assembly n (b .«size_exponent»))) v (Continue reply)
           step-more more = goes-on (block.More n) (is-taken (splice.Body n) body ∙ rw more) ∙ rw (met, piece)
 
-          pub step-last : b .more ≡ false → requestBlock c (r .block2) ≡ Absent
-              → step ≡ left (withRecorded (withAssembled s (assembly 0 0)) Absent) v (Handed reply (bytesFrom home n))
+          -- the body is complete, and Block2 follows
+          pub step-body : b .more ≡ false → step ≡ onward away (withAssembled s (assembly 0 0)) v block2 (Given reply) (Handed reply (bytesFrom home n))
+          step-body last = goes-on (block.Body n) (is-taken (splice.Body n) body ∙ rw last) ∙ rw (met, piece)
+
+          pub step-last : b .more ≡ false → block2 ≡ Absent → step ≡ left (withRecorded (withAssembled s (assembly 0 0)) Absent) v (Handed reply (bytesFrom home n))
           step-last last alone =
-              goes-on (block.Body n) (is-taken (splice.Body n) body ∙ rw last)
-              ∙ rw (met, piece, alone)
-              (onward-absent away (withAssembled s (assembly 0 0)) v Absent (Given reply) (Handed reply (bytesFrom home n)) refl)
+              step-body last ∙ onward-absent away (withAssembled s (assembly 0 0)) v block2 (Given reply) (Handed reply (bytesFrom home n)) alone ∙ rw alone
 
   -- ---- the mode
 

@@ -1,13 +1,12 @@
 -- STRICT MODE SAYS NO. Assumes nothing.
-use Prim.Native.Nat.{ℕ, suc, _+_, _-_, _*_, _^_, _≤_, _<_}
+use Prim.Native.Nat.{ℕ, _+_, _*_, _≤_, _<_}
 use mathlib.Core.Bool.{true, false, false≢true, _&&_}
 use mathlib.Core.Path.{_≡_, refl, _∙_, ap}
-use mathlib.Core.Logic.{inl, inr, ⊎-elim}
+use mathlib.Core.Logic.{_⊎_, inl, inr, ⊎-elim}
 use mathlib.Core.List.{List}
 use mathlib.Core.Option.{Option, none as no-option, some}
-use native.Mathlib.Nat.{mul-assoc}
 use native.Mathlib.Omega.{arith}
-use lib.ListN.{length, set}
+use lib.ListN.{length}
 use lib.Dec.{eqb}
 use borrow.Author.Tests.{eqb-true, eqb-false, ne-eqb}
 use Rattle.pieces.specs.Memory.{pieceOf}
@@ -15,8 +14,8 @@ use Rattle.pieces.proofs.Tests.{and-left, and-right, by-cases, refute}
 use Rattle.splicing.specs.Splice.{splicedLength, spliceOf, pieceAfter}
 use Rattle.splicing.specs.declared.Splice.the-variants as splice
 use Rattle.splicing.proofs.Splicing as splicing
-use Rattle.block_value.specs.Value.{sizeOf, blockSize, blockStart}
-use Rattle.block_value.proofs.Laws.{size-smaller, size-least, size-most}
+use Rattle.block_value.specs.Value.{blockSize, blockStart}
+use Rattle.block_value.proofs.Laws.{size-least, size-most}
 use Rattle.block_option.specs.Option.{readOf}
 use Rattle.block_option.specs.declared.Reading.{Reading}
 use Rattle.block_option.specs.declared.Reading.the-variants.{Value, Unreadable}
@@ -32,8 +31,11 @@ use Rattle.block_state.specs.declared.Part.{Part}
 use Rattle.block_state.specs.declared.Answer.{Answer}
 use Rattle.block_state.specs.declared.Answer.the-variants.{Continue, Handed, Refused}
 use Rattle.block_state.specs.Message.{Request, Response, request, response}
-use Rattle.block_state.specs.State.{assembledOk, cachedOk, stateOk}
-use Rattle.block_state.specs.Step.{Left}
+use Rattle.block_state.specs.State.{assembly, withAssembled, assembledOk, cachedOk, stateOk}
+use Rattle.block_state.specs.Step.{Left, bytesFrom}
+use Rattle.request_block2.specs.Block2.{onward}
+use Rattle.request_block2.proofs.Serving.{onward-assembled, onward-other}
+use Rattle.request_step.specs.Step.{stepRequest}
 use Rattle.request_block1.specs.Block1.{badForm, notNext, lengthMet}
 use Rattle.entries.specs.declared.Entry.{Entry}
 use Rattle.entries.specs.Entries.{entryOk}
@@ -49,9 +51,9 @@ use Rattle.pairing.proofs.Pairing.{refusal-number}
 use Rattle.one_call.specs.Agreed.{recordedFor, requestAgrees}
 use Rattle.one_call.specs.Touch.{RefusesTo}
 use Rattle.one_call.specs.Strict.{tookBlock, assembledFor, RightlyTaken, BadlyFormed, Misplaced, PassesFive, plainly, SaysTheSame, saying, OnlyStrictMakes, Fine, StrictSaysNo}
-use Rattle.one_call.specs.Strict.{Takable, assembledIn, StrictSaysYes}
+use Rattle.one_call.specs.Strict.{Takable, leftAssembled, StrictSaysYes}
 use Rattle.one_call.proofs.Checks.{and-none, bad-is, bad-as, bad-not, not-bad, passed-next, misplaced-is, misplaced-as, meets-all, meets-start}
-use Rattle.one_call.proofs.Step.{step-bad, step-astray, step-more, step-last, Unchecked, step-plainly, response-plainly}
+use Rattle.one_call.proofs.Step.{step-bad, step-astray, step-more, step-body, Unchecked, step-plainly, response-plainly}
 use Rattle.one_call.proofs.Outcomes.{openedOf, TookBlock, Why, unagreed, badly, astray, unspliced, Outcome, refused, past, tooLarge, continued, onwards, serves, none, took, answered}
 use Rattle.one_call.proofs.Touch.{made, refused-touches}
 use Rattle.one_call.proofs.Refusals.{same-number, of-refusal}
@@ -201,9 +203,12 @@ module _ (c : Config) (w : World) (q : Call) (r : Request) (b : BlockValue) (str
       let f = world-fits c w q (t .five .placed .limits) (t .five .placed .sixteen) in
       rw (row-length c (w .table) (q .time) (f .table) (f .sixteen)) (t .five .placed .place)
 
-  -- what is stored at the key's place
-  stored : (n : Entry) → at (set (rowOf c w q) here n) here .state .assembled ≡ n .state .assembled
-  stored n = ap (λ (e : Entry). e .state .assembled) (at-set-same (rowOf c w q) here n in-row)
+  -- the call answers what its step does, and stores what that leaves at the key's place
+  called : (g : Left) → stepRequest c home away state piece r ≡ g
+      → (call c w q .answer ≡ g .answer) × (at (call c w q .world .table .entries) here .state .assembled ≡ g .state .assembled)
+  unfolding callAt
+  called g step =
+      rw (made c w q (t .five .placed), t .five .asks, step) (refl, ap (λ (e : Entry). e .state .assembled) (at-set-same (rowOf c w q) here _ in-row))
 
   passed : notNext (state .assembled) b ≡ false
   passed = refute (notNext (state .assembled) b) (λ y. t .next (misplaced-as (state .assembled) b y))
@@ -219,35 +224,30 @@ module _ (c : Config) (w : World) (q : Call) (r : Request) (b : BlockValue) (str
       let long : splicedLength start start (blockSize b) p ≡ start + p = omega arith in
       splicing.taken (c .upload) start start (blockSize b) p (omega (arith, size-most (b .«size_exponent»))) (omega (arith, t .fits)) ∙ ap splice.Body long
 
+  abbrev after : BlockState
+  after = withAssembled state (assembly 0 0)
+
   takes-more : b .more ≡ true
-      → (call c w q .answer ≡ Continue (t .five .reply))
-      × (assembledIn (call c w q .world) c w q ≡ record { len = start + blockSize b; exponent = b .«size_exponent» })
-  unfolding callAt
+      → (call c w q .answer ≡ Continue (t .five .reply)) × (leftAssembled call c w q ≡ record { len = start + blockSize b; exponent = b .«size_exponent» })
   takes-more more =
       let full : p ≡ blockSize b = good-is c (state .assembled) r b (t .five .given) (exponent-read c (r .block1) b (t .five .given)) (bad-not b p (t .well)) passed .full more in
-      let step = step-more c home away state piece r b (t .five .reply) (t .five .given) (reached c w q r b strict (t .five)) good (and-none (c .strict) _ passed) start meets
-      (start + p) then body refl more in
-      rw (made c w q (t .five .placed), t .five .asks, step) (refl, stored _ ∙ rw (ne-eqb (start + p) 0 (λ e. omega (arith, size-least (b .«size_exponent»))), full))
+      let done = called _
+      (step-more c home away state piece r b (t .five .reply) (t .five .given) (reached c w q r b strict (t .five)) good (and-none (c .strict) _ passed) start meets
+      (start + p) then body refl more) in
+      (done .0, done .1 ∙ rw (ne-eqb (start + p) 0 (λ e. omega (arith, size-least (b .«size_exponent»))), full))
 
-  takes-last : b .more ≡ false → requestBlock c (r .block2) ≡ Absent
-      → ((x : Part) × (call c w q .answer ≡ Handed (t .five .reply) x)) × (assembledIn (call c w q .world) c w q ≡ record { len = 0; exponent = 0 })
-  unfolding callAt
-  takes-last last alone =
-      let step = step-last c home away state piece r b (t .five .reply) (t .five .given) (reached c w q r b strict (t .five)) good (and-none (c .strict) _ passed) start meets
-      (start + p) then body refl last alone in
-      rw (made c w q (t .five .placed), t .five .asks, step) ((_, refl), stored _)
+  completes : b .more ≡ false
+      → stepRequest c home away state piece r ≡ onward away after then (requestBlock c (r .block2)) (Given (t .five .reply)) (Handed (t .five .reply) (bytesFrom home (start + p)))
+  completes =
+      step-body c home away state piece r b (t .five .reply) (t .five .given) (reached c w q r b strict (t .five)) good (and-none (c .strict) _ passed) start meets
+      (start + p) then body refl
 
-  -- where it ends, any block no larger can start
-  goes-on : b .more ≡ true → (y : ℕ) → y ≤ assembledIn (call c w q .world) c w q .exponent → (num : ℕ) × (num * sizeOf y ≡ assembledIn (call c w q .world) c w q .len)
-  goes-on more y = rw (takes-more more .1) from
-    where
-      from : y ≤ b .«size_exponent» → (num : ℕ) × (num * sizeOf y ≡ start + blockSize b)
-      from smaller =
-          let k : ℕ = b .«size_exponent» in
-          let m : ℕ = 2 ^ (k - y) in (
-            suc (b .num) * m,
-            mul-assoc (suc (b .num)) m (sizeOf y) ∙ ap (λ (n : ℕ). suc (b .num) * n) (size-smaller k y (exponent-read c (r .block1) b (t .five .given)) smaller) ∙ omega arith,
-          )
+  ends-it : b .more ≡ false → leftAssembled call c w q ≡ record { len = 0; exponent = 0 }
+  ends-it last = called _ (completes last) .1 ∙ onward-assembled away after then _ _ _
+
+  takes-last : b .more ≡ false → (requestBlock c (r .block2) ≡ Absent) ⊎ (state .cached .held ≡ false)
+      → (x : Part) × (call c w q .answer ≡ Handed (t .five .reply) x)
+  takes-last last uncached = (bytesFrom home (start + p), called _ (completes last) .0 ∙ onward-other away after then _ _ _ uncached)
 
 -- ---- all else is as in plain mode
 
@@ -299,4 +299,4 @@ strict-says-no =
 
 -- AND YES
 pub strict-says-yes : StrictSaysYes call
-strict-says-yes = record { more = takes-more; goesOn = goes-on; last = takes-last }
+strict-says-yes = record { more = takes-more; ends = ends-it; last = takes-last }

@@ -1,13 +1,13 @@
 -- STRICT MODE SAYS NO. Whatever the table, the memories and the call: in strict mode no block is taken unless it is well formed and, but for block 0,
 -- the next. And a block that passes checks 1 to 5 and is not gets 10 or 9, 10 before 9, and changes nothing but the touch. AND IT SAYS YES to every other one that fits its piece.
-use Prim.Native.Nat.{ℕ, _+_, _*_, _≤_, _<_}
+use Prim.Native.Nat.{ℕ, _+_, _≤_, _<_}
 use mathlib.Core.Bool.{Bool, true, false}
 use mathlib.Core.Path.{_≡_}
 use mathlib.Core.Logic.{_⊎_}
 use mathlib.Core.List.{List, [], _∷_}
 use mathlib.Core.Option.{none, some}
 use lib.ListN.{length}
-use Rattle.block_value.specs.Value.{sizeOf, blockSize, blockStart}
+use Rattle.block_value.specs.Value.{blockSize, blockStart}
 use Rattle.block_value.specs.declared.BlockValue.{BlockValue}
 use Rattle.negotiation.specs.Negotiation.{requestBlock, negotiated}
 use Rattle.negotiation.specs.declared.MaybeBlock.{MaybeBlock}
@@ -57,7 +57,7 @@ pub record RightlyTaken (c : Config) (l : Assembled) (r : Request) (b : BlockVal
   pub exponent : b .«size_exponent» ≤ 6
   pub short : length (r .payload) ≤ blockSize b
   pub full : b .more ≡ true → length (r .payload) ≡ blockSize b
-  -- If it is not block 0, it starts where the assembly ends, and is no larger than the last block taken: its exponent is at most the kept one.
+  -- If it is not block 0, it starts where the assembly ends, and its exponent is at most the kept one.
   pub next : (b .num ≡ 0 → ⊥) → (blockStart b ≡ l .len) × (b .«size_exponent» ≤ l .exponent)
 
 -- ---- A block that is refused
@@ -66,7 +66,7 @@ pub record RightlyTaken (c : Config) (l : Assembled) (r : Request) (b : BlockVal
 abbrev pub BadlyFormed : BlockValue → ℕ → Type 0
 BadlyFormed b p = (b .«size_exponent» ≡ 7) ⊎ (blockSize b < p) ⊎ ((b .more ≡ true) × (p ≡ blockSize b → ⊥))
 
--- Misplaced: not block 0, and with a wrong start or a rising exponent: not at the end of the assembly, or above the kept one.
+-- Misplaced: not block 0, and starting elsewhere than where the assembly ends, or with an exponent above the kept one.
 abbrev pub Misplaced : Assembled → BlockValue → Type 0
 Misplaced l b = (b .num ≡ 0 → ⊥) × ((blockStart b ≡ l .len → ⊥) ⊎ (l .exponent < b .«size_exponent»))
 
@@ -139,22 +139,21 @@ pub record Takable (c : Config) (w : World) (q : Call) (r : Request) (b : BlockV
   pub next : Misplaced (assembledFor c w q) b → ⊥
   pub fits : blockStart b + length (r .payload) ≤ c .upload
 
--- What its key has assembled in the world v that the call left.
-abbrev pub assembledIn : World → Config → World → Call → Assembled
-assembledIn v c w q = entryAt v (place (q .key) (rowOf c w q)) .state .assembled
+-- What its key has assembled once the call was made.
+abbrev pub leftAssembled : Handler → Config → World → Call → Assembled
+leftAssembled h c w q = entryAt (h c w q .world) (place (q .key) (rowOf c w q)) .state .assembled
 
 pub record StrictSaysYes (h : Handler) : Type 0 where
   -- Marked, it is answered Continue with the value that was agreed on. What is assembled ends where it ends, and its exponent is the one kept: "that of the last block taken".
   pub more : (c : Config) (w : World) (q : Call) (r : Request) (b : BlockValue) → c .strict ≡ true → (t : Takable c w q r b) → b .more ≡ true
-      → (h c w q .answer ≡ Continue (t .five .reply))
-      × (assembledIn (h c w q .world) c w q ≡ record { len = blockStart b + blockSize b; exponent = b .«size_exponent» })
-  -- Then a block of any size up to the kept one has a num of its own that starts at the assembled length.
-  pub goesOn : (c : Config) (w : World) (q : Call) (r : Request) (b : BlockValue) → c .strict ≡ true → Takable c w q r b → b .more ≡ true
-      → (y : ℕ) → y ≤ assembledIn (h c w q .world) c w q .exponent → (num : ℕ) × (num * sizeOf y ≡ assembledIn (h c w q .world) c w q .len)
-  -- Unmarked and with no Block2, it is Handed, with the value that was agreed on; then nothing is assembled.
+      → (h c w q .answer ≡ Continue (t .five .reply)) × (leftAssembled h c w q ≡ record { len = blockStart b + blockSize b; exponent = b .«size_exponent» })
+  -- Unmarked, it completes the body: nothing is assembled any more, whatever its Block2 is answered.
+  pub ends : (c : Config) (w : World) (q : Call) (r : Request) (b : BlockValue) → c .strict ≡ true → Takable c w q r b → b .more ≡ false
+      → leftAssembled h c w q ≡ record { len = 0; exponent = 0 }
+  -- And it is Handed with the value that was agreed on, where no response can be served: it has no Block2, or nothing is cached for its key.
   pub last : (c : Config) (w : World) (q : Call) (r : Request) (b : BlockValue) → c .strict ≡ true → (t : Takable c w q r b) → b .more ≡ false
-      → requestBlock c (r .block2) ≡ Absent
-      → ((body : Part) × (h c w q .answer ≡ Handed (t .five .reply) body)) × (assembledIn (h c w q .world) c w q ≡ record { len = 0; exponent = 0 })
+      → (requestBlock c (r .block2) ≡ Absent) ⊎ (opened (q .key) (rowOf c w q) .state .cached .held ≡ false)
+      → (body : Part) × (h c w q .answer ≡ Handed (t .five .reply) body)
 
 -- Which options both modes read alike: none, and every one that has not just three bytes. And one of three bytes that starts with a zero is read in strict mode as the other
 -- two are in plain mode.

@@ -3,7 +3,7 @@ use Prim.Native.Nat.{ℕ, _+_}
 use Rattle.block_state.proofs.Fits.{StateFits, kept-ok, Held, recording-ok}
 use Rattle.block_state.proofs.StepKeeps.{Keeps, as-it-was}
 use Rattle.block_state.specs.State.{keptWhile, withCached, withRecorded}
-use Rattle.block_state.specs.Step.{left, bytesFrom}
+use Rattle.block_state.specs.Step.{Left, left, bytesFrom}
 use Rattle.block_state.specs.declared.Answer.the-variants.{Refused, Served}
 use Rattle.block_state.specs.declared.Answer.{Answer}
 use Rattle.block_state.specs.declared.BlockState.{BlockState}
@@ -19,7 +19,8 @@ use Rattle.request_block2.specs.Block2.{served, onward}
 use lib.ListN.{length}
 use mathlib.Core.Bool.{true, false}
 use mathlib.Core.List.{List}
-use mathlib.Core.Path.{_≡_}
+use mathlib.Core.Path.{_≡_, refl}
+use mathlib.Core.Logic.{_⊎_, inl, inr}
 use native.Mathlib.Omega.{arith}
 
 module _ (at : ℕ) (s : BlockState) (u : List ℕ) (block1 : MaybeBlock) (ch : Chunk) where
@@ -51,6 +52,27 @@ module _ (at : ℕ) (s : BlockState) (u : List ℕ) (block2 block1 : MaybeBlock)
     pub onward-none : s .cached .held ≡ false → onward at s u block2 block1 otherwise ≡ left (withRecorded s block2) u otherwise
     unfolding onward
     onward-none h = rw (e, h)
+
+-- ---- whichever it is, what is assembled stays, and where nothing can be served the answer is the other one
+
+served-assembled : (at : ℕ) (s : BlockState) (u : List ℕ) (block1 : MaybeBlock) (ch : Chunk) → served at s u block1 ch .state .assembled ≡ s .assembled
+unfolding served
+served-assembled at s u block1 (chunk.Refused n) = refl
+served-assembled at s u block1 (chunk.Bytes b from to) = refl
+
+pub onward-assembled : (at : ℕ) (s : BlockState) (u : List ℕ) (block2 block1 : MaybeBlock) (otherwise : Answer)
+    → onward at s u block2 block1 otherwise .state .assembled ≡ s .assembled
+unfolding onward
+onward-assembled at s u Absent block1 otherwise = refl
+onward-assembled at s u (Given b) block1 otherwise =
+    on-test (λ (g : Left). g .state .assembled ≡ s .assembled) (s .cached .held) (λ _. served-assembled at (withRecorded s (Given b)) u block1 _) (λ _. refl)
+
+pub onward-other : (at : ℕ) (s : BlockState) (u : List ℕ) (block2 block1 : MaybeBlock) (otherwise : Answer) → (block2 ≡ Absent) ⊎ (s .cached .held ≡ false)
+    → onward at s u block2 block1 otherwise .answer ≡ otherwise
+unfolding onward
+onward-other at s u block2 block1 otherwise (inl absent) = rw absent
+onward-other at s u Absent block1 otherwise (inr none) = refl
+onward-other at s u (Given b) block1 otherwise (inr none) = rw none
 
 -- ---- what it leaves keeps the limits, and the piece stays as it was
 
