@@ -1,6 +1,6 @@
 -- The laws of a request's step, a law for each branch: what the code's answers come to. Assumes nothing.
 use Prim.Native.Nat.{ℕ}
-use mathlib.Core.Path.{_≡_}
+use mathlib.Core.Path.{_≡_, sym, _∙_}
 use mathlib.Core.List.{List}
 use lib.ListN.{length}
 use Rattle.config.specs.declared.Config.{Config}
@@ -11,6 +11,7 @@ use Rattle.negotiation.specs.declared.Negotiated.{Negotiated}
 use Rattle.negotiation.specs.declared.Negotiated.the-variants as agreed
 use Rattle.block_state.specs.declared.BlockState.{BlockState}
 use Rattle.block_state.specs.declared.RequestNumbers.{RequestNumbers}
+use Rattle.block_state.specs.declared.Answer.{Answer}
 use Rattle.block_state.specs.declared.Answer.the-variants.{TooLarge, Pass, Refused}
 use Rattle.block_state.specs.Contract.{asking}
 use Rattle.block_state.specs.Step.{left}
@@ -40,6 +41,12 @@ module _ (c : Config) (home at : ℕ) (s : BlockState) (u : List ℕ) (block2 : 
         ≡ onTaken home at s (pieceTaken c (s .assembled) u x payload t) block2 (x .«size_exponent») b t
     unfolding onNegotiated block1Given
     step-given x t k e = rw (h, k, e)
+
+    -- what goes on from it with its exponent, whatever the piece, is that step
+    pub step-went : (next : BlockState) (a : Answer) (v : List ℕ) (x : BlockValue) (t : Taken) (exponent : ℕ)
+        → ((u : List ℕ) → left next u a ≡ onTaken home at s u block2 exponent b t) → exponent ≡ x .«size_exponent» → v ≡ pieceTaken c (s .assembled) u x payload t
+        → block1 ≡ Given x → t ≡ taken c (s .assembled) x (length payload) → left next v a ≡ onNegotiated c home at s u block2 payload block1 reply
+    step-went next a v x t exponent went its piece k e = went v ∙ rw (piece, its) (sym (step-given x t k e))
 
 -- a step with the options read is the request's
 pub step-read : (c : Config) (home at : ℕ) (s : BlockState) (u : List ℕ) (q : RequestNumbers) (option1 option2 payload : List ℕ) (a : Asked)

@@ -1,9 +1,9 @@
-use mathlib.Core.Path.{sym, _∙_}
+use mathlib.Core.Path.{refl, sym, _∙_}
 use Prim.Native.Nat.{_≤_}
 use native.Mathlib.Omega.{arith}
 use Rattle.block_state.proofs.Steps.{returned}
 use Rattle.request_block1.proofs.Taking.{taken-at-most}
-use Rattle.request_step.proofs.Steps.{step-refused, step-plain, step-large, step-given}
+use Rattle.request_step.proofs.Steps.{step-refused, step-plain, step-large, step-went}
 use borrow.Author.Needs.{needs}
 use Rattle.request_step.proofs.step_request.Statement.{statement}
 use Rattle.request_step.proofs.step_request.Tie as tie
@@ -42,8 +42,8 @@ returns-4 c =
     let given = taken .before .before .before .before in
     let told = given .before .before .before in
     let agreed = told .before .before in
-    rw (taken .handle-request-block1 .ensures .1) (c .go-on .ensures _)
-    ∙ sym (step-given _ _ _ _ _ _ _ _ _ _ (sym (agreed .negotiate-block-size-if-necessary .ensures) ∙ told .reply .given .1) _ _ (given .block1 .given .1) (taken .handle-request-block1 .ensures .0))
+    step-went _ _ _ _ _ _ _ _ _ _ (sym (agreed .negotiate-block-size-if-necessary .ensures) ∙ told .reply .given .1) _ _ _ _ _ _
+    (c .go-on .ensures) refl (taken .handle-request-block1 .ensures .1) (given .block1 .given .1) (taken .handle-request-block1 .ensures .0)
 
 pub step-request-spec : {M : Type 1} → statement M
 step-request-spec =
