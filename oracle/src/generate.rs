@@ -1,4 +1,5 @@
-//! Scripts within demand 2's domain: plain mode, no entry expired, at most 16 keys, no refusal 1, 2, 3 or 7, no panic in the Rust.
+//! Scripts within demand 2's domain: plain mode, no entry expired, at most 16 keys, no refusal 1, 2, 3 or 7, no panic in the Rust. And scripts
+//! of the same kinds in strict mode, for the model and our program: there the domain has no meaning, and every call is taken.
 //!
 //! A script begins with a `C` line. Each key then has a queue of calls of its own, filled by plans (an upload, a download, a jump, ..),
 //! and the next call is taken from a queue at random, so that transfers cross. A call that would leave the domain is left out: the
@@ -60,6 +61,7 @@ impl Random {
 /// How scripts are to be.
 #[derive(Debug, Clone, Copy)]
 pub struct Style {
+    pub strict: bool,
     /// Payloads that are not of a size for a reason of their own stay below this.
     pub cap: u64,
     /// Whether calls are left out whose reply has a num above 4095.
@@ -72,6 +74,7 @@ pub struct Style {
 
 /// What the runs use.
 pub const FULL: Style = Style {
+    strict: false,
     cap: 2048,
     low_nums: false,
     huge: true,
@@ -81,8 +84,11 @@ pub const FULL: Style = Style {
     ],
 };
 
+/// What the runs in strict mode use.
+pub const STRICT: Style = Style { strict: true, rooms: &[1, 16, 700, 1024], ..FULL };
+
 /// Short lines, and nums as every side prints them.
-const SHORT: Style = Style { cap: 70, low_nums: true, huge: false, rooms: &[1, 16, 33] };
+const SHORT: Style = Style { strict: false, cap: 70, low_nums: true, huge: false, rooms: &[1, 16, 33] };
 
 /// A call without its time and key.
 type Todo = (u64, What);
@@ -110,7 +116,7 @@ pub struct Generator {
 /// The block value that the call negotiates with, if it has one and there is enough room for the message, and the g of document 01.
 fn negotiated(model: &Model, t: u64, call: &Call) -> Option<(Block, u64)> {
     let block = match &call.what {
-        What::Request { block1, .. } => counted(false, block1),
+        What::Request { block1, .. } => counted(model.strict(), block1),
         What::Response { own: true, .. } => None,
         What::Response { .. } => model.look(&call.key).recorded,
     }?;
@@ -118,8 +124,12 @@ fn negotiated(model: &Model, t: u64, call: &Call) -> Option<(Block, u64)> {
     Some((block, block.size().min(m)))
 }
 
-/// Whether the call is within the domain. If so, the model has taken it; if not, it has touched the model at most.
+/// Whether the call is within the domain, or in strict mode. If so, the model has taken it; if not, it has touched the model at most.
 fn taken(model: &mut Model, t: u64, call: &Call) -> bool {
+    if model.strict() {
+        model.call(call);
+        return true;
+    }
     // With a block given and no room at all the Rust divides by zero.
     let panics = negotiated(model, t, call).is_some_and(|(_, g)| g == 0);
     !panics && script::IN_DOMAIN.contains(&model.call(call).name.as_str())
@@ -202,7 +212,7 @@ impl Generator {
                 Key { bytes, queue: VecDeque::new() }
             })
             .collect();
-        let config = Config { strict: false, t: self.t, lifetime: LIFETIME, u: PIECE, v: PIECE };
+        let config = Config { strict: self.style.strict, t: self.t, lifetime: LIFETIME, u: PIECE, v: PIECE };
         self.model = Model::new(config);
         self.left = if self.style.huge { r.between(40, 600) } else { r.between(40, 200) };
         if let Some((room, exponent)) = sweep {
@@ -347,7 +357,10 @@ impl Generator {
     // Plans
 
     fn plan(&mut self, i: usize, look: Look) {
+        let falling = if self.style.strict { 2 } else { 5 };
         let calls = match self.random.below(100) {
+            // The short lines stay as they are: they stand in our fixed list.
+            0..=34 if self.style.huge && self.random.one_in(falling) => self.falling(),
             0..=34 => self.upload(),
             35..=74 => self.download(),
             75..=86 => self.noise(),
@@ -401,6 +414,54 @@ impl Generator {
             calls.push(self.upload_call(num, more, e, payload));
         }
         calls
+    }
+
+    /// An upload whose size falls now and then, each block at the end of those before it and mostly full. Among them are strays.
+    fn falling(&mut self) -> Vec<Todo> {
+        let mut e = self.random.pick(&[1, 1, 2, 2, 3, 4, 5, 6]);
+        let n = self.random.between(2, 9);
+        let (mut at, mut calls) = (0, Vec::new());
+        for k in 1..=n {
+            if at > 0 && self.random.one_in(4) {
+                calls.push(self.stray(at, e));
+            }
+            if at > 0 && self.random.one_in(3) {
+                e = self.random.below(u64::from(e) + 1) as u8;
+            }
+            calls.push(self.whole_or_last(at >> (e + 4), k < n, e));
+            at += 16 << e;
+        }
+        calls
+    }
+
+    /// A block that strict mode does not take behind so many bytes, the last of them in a block of that exponent: a larger one, or one that
+    /// starts elsewhere because its sender counts on from the last num or is a block off.
+    fn stray(&mut self, at: u64, e: u8) -> Todo {
+        // The next larger size, if a block of it can start there, or any.
+        let twice = at.trailing_zeros() > u32::from(e) + 4 && self.random.one_in(2);
+        let other = if twice { (e + 1).min(6) } else { self.random.below(7) as u8 };
+        let end = at >> (other + 4);
+        let num = match self.random.below(3) {
+            _ if other > e => end.max(1),
+            0 if other < e => at >> (e + 4),
+            1 if end > 1 => end - 1,
+            _ => end + 1,
+        };
+        let more = !self.random.one_in(3);
+        self.whole_or_last(num, more, other)
+    }
+
+    /// A full block if more follow, and one of any length up to its size if not; now and then another.
+    fn whole_or_last(&mut self, num: u64, more: bool, e: u8) -> Todo {
+        let s = 16 << e;
+        let n = match self.random.below(24) {
+            0 => self.random.near(s),
+            1..=2 if !more => 0,
+            _ if more => s,
+            _ => self.random.below(s + 1),
+        };
+        let payload = self.random.bytes(n);
+        self.upload_call(num, more, e, payload)
     }
 
     /// A request, its response, and the blocks fetched in some order.

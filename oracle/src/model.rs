@@ -1,5 +1,5 @@
-//! Document 01 in plain Rust, with document 02's longer lists, written from their text alone: no word of the Rust module is used here. Document 01's sections are the
-//! headings below.
+//! Document 01 in plain Rust, with document 02's longer lists and senders that go smaller, written from their text alone: no word of the Rust
+//! module is used here. Document 01's sections are the headings below.
 
 use crate::script::{Answer, Call, Config, Shown, What};
 
@@ -114,7 +114,10 @@ pub struct Look {
 }
 
 fn in_limits(c: &Config) -> bool {
-    (1..=65_535).contains(&c.t) && (1..=4_294_967_295).contains(&c.lifetime) && (16..=16_777_216).contains(&c.u) && (16..=65_536).contains(&c.v)
+    (1..=65_535).contains(&c.t)
+        && (1..=4_294_967_295).contains(&c.lifetime)
+        && (16..=16_777_216).contains(&c.u)
+        && (16..=65_536).contains(&c.v)
 }
 
 impl Model {
@@ -122,6 +125,10 @@ impl Model {
     pub fn new(config: Config) -> Self {
         let (u, v) = if in_limits(&config) { (config.u as usize, config.v as usize) } else { (0, 0) };
         Self { config, clock: 0, entries: vec![Entry::default(); ENTRIES], upload: vec![0; ENTRIES * u], response: vec![0; ENTRIES * v] }
+    }
+
+    pub fn strict(&self) -> bool {
+        self.config.strict
     }
 
     pub fn look(&self, key: &[u8]) -> Look {
@@ -224,7 +231,8 @@ impl Model {
             }
             if b.num == 0 {
                 length = 0;
-            } else if a != length || b.exponent != e.kept {
+            } else if a != length || b.exponent > e.kept {
+                // A wrong start or a rising exponent.
                 return Err(9);
             }
         }
@@ -353,6 +361,32 @@ Q 0 01 0 10 - 64
         let got: Vec<&str> = answers.lines().skip(1).map(|l| l.split(' ').nth(1).unwrap()).collect();
         assert_eq!(got.join(" "), names);
         assert!(answers.ends_with("Handed 1/0/16 - 6363636363636363636363636363636364\n"));
+    }
+
+    /// A block 0 that leaves no room for its size, then blocks at the size of the reply: by number, by offset, and the larger size again.
+    #[test]
+    fn smaller_blocks() {
+        let mut script = "C strict 64 10 2048 1024\n".to_owned();
+        let blocks = [("0a", 64), ("19", 32), ("29", 32), ("39", 32), ("2a", 64), ("22", 3), ("88", 16), ("48", 16), ("90", 0)];
+        for (option, payload) in blocks {
+            script += &format!("Q 0 01 20 {option} - {}\n", if payload == 0 { ".".to_owned() } else { "61".repeat(payload) });
+        }
+        let expected = format!(
+            "\
+line answer block1 block2 bytes
+2 Continue 0/1/32 - -
+3 refused-9 - - -
+4 Continue 2/0/32 - -
+5 Continue 3/0/32 - -
+6 refused-9 - - -
+7 refused-9 - - -
+8 Continue 8/0/16 - -
+9 refused-9 - - -
+10 Handed 9/0/16 - {}
+",
+            "61".repeat(144)
+        );
+        assert_eq!(answers(&script), expected);
     }
 
     #[test]

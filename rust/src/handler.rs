@@ -23,10 +23,10 @@ pub struct BlockHandlerConfig {
     pub max_total_message_size: usize,
     /// How long a key's state lives without a call, in whole milliseconds: 1 to 4,294,967,295 of them.
     pub cache_expiry_duration: Duration,
-    /// In strict mode an upload is its blocks in order from block 0, and nothing else. Plain mode answers as coap-lite does, and takes
-    /// blocks in any order: a push that is sent again, and is shorter, keeps the old one's tail; and the last block of a push, sent twice,
-    /// hands on a corrupt body the second time, zeros in place of all blocks but that one. The last block that it can
-    /// take is block 4095, since it reads no option of three bytes. A lane should be strict.
+    /// In strict mode an upload is its blocks in order from block 0, and nothing else; their size may fall on the way and never rises. Plain
+    /// mode answers as coap-lite does, and takes blocks in any order: a push that is sent again, and is shorter, keeps the old one's tail;
+    /// and the last block of a push, sent twice, hands on a corrupt body the second time, zeros in place of all blocks but that one. The
+    /// last block that it can take is block 4095, since it reads no option of three bytes. A lane should be strict.
     pub mode: Mode,
     /// The longest upload: the length of each key's piece of the upload memory, 16 to 16,777,216.
     pub max_upload: usize,

@@ -23,7 +23,7 @@ pub enum Refusal {
     NoRoom = 7,
     /// The chunk asked for begins past the end.
     PastTheEnd = 8,
-    /// Strict mode: not the next block of the upload.
+    /// Strict mode: not the next block of the upload. It does not start where the assembly ends, or it is larger than the block before.
     NotNext = 9,
     /// Strict mode: the block's form is bad, a payload too long or too short for it or the reserved exponent.
     BadForm = 10,

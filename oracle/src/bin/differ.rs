@@ -1,6 +1,9 @@
-//! `differ CALLS SEED FOLDER ORACLE OURS...`: makes scripts of so many calls from the seed, gives each to the program ORACLE and to
-//! the program OURS (with its words), and compares what they print line by line, nums modulo 4096. Prints how many calls agreed, by
-//! answer. At a difference it prints the smallest script that it finds to show it, and ends with status 1.
+//! `differ MODE CALLS SEED FOLDER ORACLE OURS...`: makes scripts of so many calls from the seed, gives each to the program ORACLE and to
+//! the program OURS (with its words), and compares what they print line by line. Prints how many calls agreed, by answer. At a difference it
+//! prints the smallest script that it finds to show it, and ends with status 1.
+//!
+//! MODE is `plain`, where ORACLE is the Rust, nums are compared modulo 4096 and answers are to be within the domain, or `strict`, where it is
+//! the model.
 //!
 //! Scripts are made and run a piece at a time, in FOLDER. CHUNK is the size of a piece in bytes.
 
@@ -15,6 +18,7 @@ use oracle::generate::{self, Generator};
 use oracle::script;
 
 struct Sides {
+    strict: bool,
     folder: PathBuf,
     oracle: Vec<String>,
     ours: Vec<String>,
@@ -55,7 +59,7 @@ impl Sides {
             ours.read_until(b'\n', &mut bytes)?;
             b.push_str(&String::from_utf8_lossy(&bytes));
             let end = at == Some(lines.len());
-            if !same(&a, &b) || a.is_empty() != end {
+            if !self.same(&a, &b) || a.is_empty() != end {
                 let at = at.unwrap_or(0).min(lines.len() - 1);
                 return Ok(Some(Difference { at, oracle: a.trim_end().to_owned(), ours: b.trim_end().to_owned() }));
             }
@@ -102,14 +106,14 @@ impl Sides {
         };
         println!("differ: the two sides differ at the end of this script:");
         small.iter().for_each(|l| println!("{l}"));
-        println!("the Rust: {oracle}\nour side: {ours}");
+        println!("{}: {oracle}\nour side: {ours}", if self.strict { "the model" } else { "the Rust" });
         Ok(())
     }
-}
 
-/// The same answer line, nums modulo 4096.
-fn same(a: &str, b: &str) -> bool {
-    a == b || reduced(a) == reduced(b)
+    /// The same answer line, in plain mode nums modulo 4096.
+    fn same(&self, a: &str, b: &str) -> bool {
+        a == b || !self.strict && reduced(a) == reduced(b)
+    }
 }
 
 fn reduced(line: &str) -> Vec<String> {
@@ -125,14 +129,19 @@ fn reduced(line: &str) -> Vec<String> {
 
 fn main() -> io::Result<ExitCode> {
     let words: Vec<String> = env::args().skip(1).collect();
-    let [calls, seed, folder, oracle, ours @ ..] = &words[..] else { panic!("differ CALLS SEED FOLDER ORACLE OURS...") };
+    let [mode, calls, seed, folder, oracle, ours @ ..] = &words[..] else { panic!("differ MODE CALLS SEED FOLDER ORACLE OURS...") };
+    let (strict, style) = match mode.as_str() {
+        "plain" => (false, generate::FULL),
+        "strict" => (true, generate::STRICT),
+        _ => panic!("MODE is plain or strict"),
+    };
     let calls: u64 = calls.parse().expect("CALLS is a number");
     let seed: u64 = seed.parse().expect("SEED is a number");
     let chunk: usize = env::var("CHUNK").map_or(400_000, |c| c.parse().expect("CHUNK is a number"));
-    let sides = Sides { folder: PathBuf::from(folder), oracle: vec![oracle.clone()], ours: ours.to_vec() };
+    let sides = Sides { strict, folder: PathBuf::from(folder), oracle: vec![oracle.clone()], ours: ours.to_vec() };
     fs::create_dir_all(&sides.folder)?;
 
-    let mut generator = Generator::new(seed, generate::FULL);
+    let mut generator = Generator::new(seed, style);
     let mut counts = BTreeMap::new();
     let (mut agreed, mut scripts, mut bytes) = (0, 0, 0);
     while agreed < calls {
@@ -151,7 +160,7 @@ fn main() -> io::Result<ExitCode> {
         println!("{count:>9} {name}");
     }
     let odd: Vec<&String> = counts.keys().filter(|k| !script::IN_DOMAIN.contains(&k.as_str())).collect();
-    if !odd.is_empty() {
+    if !strict && !odd.is_empty() {
         println!("differ: answers from outside the domain: {odd:?}");
         return Ok(ExitCode::FAILURE);
     }

@@ -1,7 +1,7 @@
 //! Random calls, chosen with an eye on the table: most go on with what a key has begun, some are odd, a few are off the limits.
 
 use super::model::last_num;
-use crate::ffi::{BlockState, Entry, Table};
+use crate::ffi::{Assembled, BlockState, Entry, Table};
 use crate::{BlockHandlerConfig, Mode, Request, Response};
 
 /// Random numbers, the same in each run (the generator is SplitMix64).
@@ -155,9 +155,19 @@ impl Calls {
     }
 
     pub fn state(&self, table: &Table, key: usize) -> BlockState {
+        self.entry(table, key).map_or_else(BlockState::default, |e| e.state)
+    }
+
+    /// What the call meets of its key's upload: nothing where the lifetime is over.
+    pub fn met(&self, table: &Table, call: &Call) -> Assembled {
+        let lifetime = self.config.cache_expiry_duration.as_millis();
+        let live = |e: &&Entry| u128::from(call.time.saturating_sub(e.touched)) < lifetime;
+        self.entry(table, call.key).filter(live).map_or_else(Assembled::default, |e| e.state.assembled)
+    }
+
+    fn entry<'a>(&self, table: &'a Table, key: usize) -> Option<&'a Entry> {
         let key = self.key(key);
-        let holds = |e: &&Entry| e.used && e.key.bytes.get(..usize::from(e.key.len)) == Some(key);
-        table.entries.iter().find(holds).map_or_else(BlockState::default, |e| e.state)
+        table.entries.iter().find(|e| e.used && e.key.bytes.get(..usize::from(e.key.len)) == Some(key))
     }
 
     /// Mostly soon after the clock, at times late enough for a lifetime to end, and at times too early.
@@ -198,8 +208,9 @@ impl Calls {
 
     fn some_request(&mut self, state: BlockState, bare: usize) -> What {
         let (block1, len) = match self.random.below(100) {
-            0..=57 => self.next_block(state),
-            58..=72 => self.odd_block(state, bare),
+            0..=49 => self.next_block(state.assembled),
+            50..=59 => self.resized_block(state.assembled),
+            60..=72 => self.odd_block(state, bare),
             _ => (None, self.length(self.config.max_total_message_size / 2)),
         };
         let block2 = if self.random.percent(30) { Some(self.some_block2(state)) } else { None };
@@ -238,17 +249,44 @@ impl Calls {
     }
 
     /// The block that goes on with the assembly, or block 0: full if more follow, and no longer if it is the last.
-    fn next_block(&mut self, state: BlockState) -> (Option<OptionBytes>, usize) {
-        let anew = state.assembled.len == 0 || self.random.percent(3);
+    fn next_block(&mut self, met: Assembled) -> (Option<OptionBytes>, usize) {
+        let anew = met.len == 0 || self.random.percent(3);
         let most = self.config.max_upload.max(16).ilog2().min(10) - 4;
-        let exponent = if anew { self.random.up_to(most as usize) as u8 } else { state.assembled.exponent };
+        let exponent = if anew { self.random.up_to(most as usize) as u8 } else { met.exponent };
+        let num = if anew { 0 } else { u64::from(met.len) >> (exponent + 4) };
+        self.full_or_last(met, num, exponent)
+    }
+
+    fn full_or_last(&mut self, met: Assembled, num: u64, exponent: u8) -> (Option<OptionBytes>, usize) {
         let size = 16 << exponent;
-        let num = if anew { 0 } else { u64::from(state.assembled.len) / size };
         // The last block comes where the piece is nearly full, and at times a block too many.
-        let room = u64::from(state.assembled.len) + 2 * size <= self.config.max_upload as u64;
+        let room = u64::from(met.len) + 2 * size <= self.config.max_upload as u64;
         let more = self.random.percent(if room { 85 } else { 10 });
         let len = if more { size as usize } else { self.random.up_to(size as usize) };
         (Some(OptionBytes::of(num, more, exponent)), len)
+    }
+
+    /// A block of another size than the last one's, where the assembly ends, with its num rescaled. More are smaller than larger. At times
+    /// the sender counts on from the last block's num, or is a block off; at times it ends with an empty block.
+    fn resized_block(&mut self, met: Assembled) -> (Option<OptionBytes>, usize) {
+        // Blocks of this exponent and of smaller ones can start there.
+        let most = met.len.trailing_zeros().saturating_sub(4).min(6) as u8;
+        let exponents = if self.random.percent(60) { 0..met.exponent } else { met.exponent + 1..most + 1 };
+        if met.len == 0 || exponents.is_empty() {
+            return self.next_block(met);
+        }
+        let exponent = exponents.start + self.random.below(exponents.len() as u64) as u8;
+        let end = u64::from(met.len) >> (exponent + 4);
+        let num = match self.random.below(12) {
+            0..=1 => u64::from(met.len) >> (met.exponent + 4),
+            2 => end + 1,
+            3 => end.saturating_sub(1),
+            _ => end,
+        };
+        if self.random.percent(4) {
+            return (Some(OptionBytes::of(num, false, exponent)), 0);
+        }
+        self.full_or_last(met, num, exponent)
     }
 
     fn odd_block(&mut self, state: BlockState, bare: usize) -> (Option<OptionBytes>, usize) {

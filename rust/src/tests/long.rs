@@ -16,7 +16,7 @@ fn block_bytes(num: u32) -> [u8; 16] {
 }
 
 /// A list of so many bytes.
-fn list(len: usize) -> Vec<u8> {
+pub fn list(len: usize) -> Vec<u8> {
     let mut bytes: Vec<u8> = (0..len.div_ceil(16) as u32).flat_map(block_bytes).collect();
     bytes.truncate(len);
     bytes
@@ -55,15 +55,15 @@ fn handed(handler: &mut BlockHandler, time: u64, num: u32, size_exponent: u8, pa
     assert!(body == list, "what is handed on is the list");
 }
 
-/// Three lanes whose calls stand between the blocks of the long list. Each call's answer is known.
+/// Three lanes whose calls stand between the blocks of a list in strict mode, at the time of the call before. Each call's answer is known.
 #[derive(Default)]
-struct Others {
+pub struct Others {
     turn: usize,
     refused: u64,
 }
 
 impl Others {
-    fn call(&mut self, handler: &mut BlockHandler, time: u64) {
+    pub fn call(&mut self, handler: &mut BlockHandler, time: u64) {
         let (lane, step) = (self.turn % 3, self.turn / 3);
         self.turn += 1;
         match lane {

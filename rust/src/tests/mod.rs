@@ -9,6 +9,7 @@ mod messages;
 mod model;
 mod parts;
 mod runs;
+mod smaller;
 mod values;
 
 use std::collections::BTreeMap;
@@ -75,13 +76,14 @@ impl Pair {
     /// Makes the call on both sides. The answers, the tables with the bytes held, and every byte of the memories have to be the same.
     /// Gives the answer's name.
     fn call(&mut self, calls: &Calls, call: &Call) -> &'static str {
+        let met = calls.met(&self.model.table, call);
         let name = match calls.request(call) {
             Some(request) => self.request(&request),
             None => self.response(&calls.response(call).expect("a call is a request or a response")),
         };
         *self.seen.entry(name).or_default() += 1;
         let recorded = calls.state(&self.model.table, call.key).recorded.value();
-        self.edges.note(&self.model.config, call, recorded, name);
+        self.edges.note(&self.model.config, call, met, recorded, name);
         name
     }
 

@@ -1,5 +1,5 @@
-//! Document 01 once more, with what document 02 adds on longer lists, in plain Rust and from their text alone. Document 01's sections are
-//! the headings below. It shares with the crate the form of the table and of the answers, and no rule.
+//! Document 01 once more, with what document 02 adds on longer lists and on senders that go smaller, in plain Rust and from their text
+//! alone. Document 01's sections are the headings below. It shares with the crate the form of the table and of the answers, and no rule.
 
 use crate::ffi::{Assembled, Block, BlockState, Cached, Config, Entry, Key, Table};
 use crate::{BlockValue, Mode, Refusal, Request, RequestAnswer, Response, ResponseAnswer};
@@ -44,7 +44,7 @@ pub fn size(block: BlockValue) -> u64 {
     1 << (block.size_exponent + 4)
 }
 
-fn start(block: BlockValue) -> u64 {
+pub fn start(block: BlockValue) -> u64 {
     u64::from(block.num) * size(block)
 }
 
@@ -283,7 +283,8 @@ fn splice(config: &Config, assembled: &mut Assembled, piece: &mut [u8], block: B
         }
         if block.num == 0 {
             length = 0;
-        } else if a != length || block.size_exponent != assembled.exponent {
+        } else if a != length || block.size_exponent > assembled.exponent {
+            // A wrong start or a rising exponent.
             return Err(Refusal::NotNext);
         }
     }
