@@ -116,6 +116,12 @@
 //! if three bytes remain, send 4.13 and make no call. An option of more than three bytes counts as absent in either mode. RFC 7959 has
 //! none: send 4.02 and make no call.
 //!
+//! # Smaller blocks on the way
+//!
+//! Where a message leaves less room than its block has bytes, the block is taken and a smaller size comes back. RFC 7959 has the client go
+//! on at that size from where the block ended, with its num counted anew: after one block of 1,024 bytes, num 2 of 512. Strict mode takes
+//! that, as often as the size falls; a larger block gets [`Refusal::NotNext`], but for block 0, which starts afresh at any size.
+//!
 //! # Building
 //!
 //! The build script looks for `libhandler_c.a` and `libmessage_c.a` in `../target/staticlib`, where `rt staticlib handler_c` and

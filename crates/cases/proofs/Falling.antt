@@ -89,7 +89,7 @@ can-fall =
 -- ---- strict mode says yes, and no
 
 -- a block no longer than its size, of exponent at most 6, full if it is marked, is not badly formed
-well-formed : (b : BlockValue) (p : ℕ) → b .«size_exponent» < 7 → p ≤ blockSize b → (b .more ≡ true → p ≡ blockSize b) → BadlyFormed b p → ⊥
+pub well-formed : (b : BlockValue) (p : ℕ) → b .«size_exponent» < 7 → p ≤ blockSize b → (b .more ≡ true → p ≡ blockSize b) → BadlyFormed b p → ⊥
 well-formed b p six short full (inl seven) = omega arith
 well-formed b p six short full (inr (inl long)) = omega arith
 well-formed b p six short full (inr (inr bad)) = bad .1 (full (bad .0))

@@ -19,7 +19,7 @@ use Rattle.apart.specs.Answers.{said, served}
 use Rattle.keys.specs.Keys as keys
 use Rattle.answer_sources.specs.Parts.{servedChunk}
 use Rattle.call.specs.Call.{Call, call, withinLimits}
-use Rattle.one_call.specs.Strict.{BadlyFormed, PassesFive}
+use Rattle.one_call.specs.Strict.{PassesFive}
 use Rattle.demands.specs.Demand3.{Sent, callOn, block, All, AllBytes, Blocks}
 use Rattle.demands.specs.Clocks.{requestsOn, GrantedOwn}
 use Rattle.demands.proofs.Runs.{rising-own}
@@ -32,7 +32,7 @@ use Rattle.cases.specs.Given.{large, lentWorld, full, sixteenMore, farAg
 use Rattle.cases.specs.Given.{EachSends, goesBack, page, storing, asked, AllCanBeGiven}
 use Rattle.cases.proofs.Computes.{values, limits, calls}
 use Rattle.cases.proofs.Shams.{fresh-free, fresh-nothing, one-block, own, can-be-given}
-use Rattle.cases.proofs.Falling.{blocks-fall}
+use Rattle.cases.proofs.Falling.{blocks-fall, well-formed}
 use Rattle.cases.specs.Falling.{narrow, lent, first64, next32, last16}
 
 -- ---- what holds of every call, by one test
@@ -141,12 +141,6 @@ passes-five n ok agreed =
       agreed = agreed;
     }
 
-well-formed : BadlyFormed (block 1 true 0) 16 → ⊥
-unfolding values
-well-formed (inl e) = let z : _≡_ {A = ℕ} 0 7 = e in omega arith
-well-formed (inr (inl h)) = omega arith
-well-formed (inr (inr h)) = h .1 refl
-
 serves-it : (strict : Bool) → said (asked strict .answer) .kind ≡ served
 unfolding calls
 serves-it true = refl
@@ -248,7 +242,7 @@ all-can-be-given =
       bad = inr (inr (refl, λ e. let z : _≡_ {A = ℕ} 15 16 = e in omega arith));
       misplaced = (λ e. let z : _≡_ {A = ℕ} 1 0 = e in omega arith, inl (λ e. let z : _≡_ {A = ℕ} 16 0 = e in omega arith));
       astray = passes-five 16 refl refl;
-      well = well-formed;
+      well = well-formed (block 1 true 0) 16 (omega arith) (omega arith) (λ _. refl);
       serves = serves-it;
       stored = stored-it;
       chunk = chunk-it;
