@@ -53,9 +53,9 @@ struct block_handler_config {
  * three counts as absent: block 4096 and every later one is taken for a whole message, and PASS gives it to the application as the list. In plain mode, take zero bytes off the option's
  * front before the call; if three bytes remain, send 4.13 and make no call. An option of more than three bytes counts as absent in either mode. RFC 7959 has none: send 4.02 and make no call.
  *
- * Smaller blocks on the way: where a message leaves less room than its block has bytes, the block is taken and a smaller size comes back. RFC 7959 has the client go on at that size from where
- * the block ended, with its num counted anew: after one block of 1024 bytes, num 2 of 512. Strict mode takes that, as often as the size falls; a larger block gets refusal 9, but for block 0,
- * which starts afresh at any size. */
+ * Smaller blocks on the way: where a message has room for 16 bytes or more, but not for its block's size, block 0 is taken and a smaller size comes back. RFC 7959 has the client go on at that
+ * size from where the block ended, with its num counted anew: after one block of 1024 bytes, num 2 of 512. Strict mode takes that, as often as the size falls; a larger block gets refusal 9, but
+ * for block 0, which starts afresh at any size. */
 
 /* A key's bytes and their number. Bytes past the length are never compared. */
 struct block_handler_key {

@@ -118,9 +118,10 @@
 //!
 //! # Smaller blocks on the way
 //!
-//! Where a message leaves less room than its block has bytes, the block is taken and a smaller size comes back. RFC 7959 has the client go
-//! on at that size from where the block ended, with its num counted anew: after one block of 1,024 bytes, num 2 of 512. Strict mode takes
-//! that, as often as the size falls; a larger block gets [`Refusal::NotNext`], but for block 0, which starts afresh at any size.
+//! Where a message has room for 16 bytes or more, but not for its block's size, block 0 is taken and a smaller size comes back. RFC 7959
+//! has the client go on at that size from where the block ended, with its num counted anew: after one block of 1,024 bytes, num 2 of 512.
+//! Strict mode takes that, as often as the size falls; a larger block gets [`Refusal::NotNext`], but for block 0, which starts afresh at
+//! any size.
 //!
 //! # Building
 //!

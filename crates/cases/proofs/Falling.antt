@@ -2,23 +2,21 @@
 use Prim.Native.Nat.{ℕ, zero, suc, _+_, _≤_, _<_}
 use mathlib.Core.Bool.{Bool, true, false, false≢true}
 use mathlib.Core.Path.{_≡_, refl}
-use mathlib.Core.Logic.{inl, inr, ⊎-elim}
+use mathlib.Core.Logic.{inr}
 use mathlib.Core.List.{_∷_, []}
 use native.Mathlib.Omega.{arith}
 use Rattle.config.proofs.Mode.{nums-least}
-use Rattle.block_value.specs.Value.{blockSize, blockStart}
-use Rattle.block_value.specs.declared.BlockValue.{BlockValue}
-use Rattle.block_state.specs.declared.Assembled.{Assembled}
 use Rattle.apart.specs.Answers.{continue, refusal}
-use Rattle.one_call.specs.Strict.{BadlyFormed, Misplaced}
+use Rattle.one_call.proofs.Checks.{well-formed, next-not-misplaced}
 use Rattle.demands.specs.Demand3.{callOn, block, AllBytes, Granted}
 use Rattle.demands.specs.Falling.{FallingBlocks, Extends, Demand3Falling}
 use Rattle.demands.proofs.Falling.{extends}
+use Rattle.demands.proofs.Demand3.{granted-own}
 use Rattle.many_calls.specs.Twice.{SentAgain}
 use Rattle.cases.specs.Shams.{key}
 use Rattle.cases.specs.Falling.{narrow, lent, falling, first64, next32, last16, rest, later, CanFall, SaidYesAndNo, oneSizeOnly, FallingExcluded}
 use Rattle.cases.proofs.Computes.{values, limits, calls}
-use Rattle.cases.proofs.Shams.{fresh-free, fresh-nothing, reads, own}
+use Rattle.cases.proofs.Shams.{fresh-free, fresh-nothing, reads}
 
 never-rises : (j : ℕ) → falling (suc j) ≤ falling j
 never-rises zero = omega arith
@@ -65,7 +63,7 @@ again-fall : (strict : Bool) → SentAgain (narrow strict) lent key falling (fir
 again-fall strict =
     record {
       blocks = blocks-fall strict 5 8 9 65 66 67 (omega arith) (omega arith);
-      granted = own (narrow strict) lent (first64 5 65) rest later (given-fall strict);
+      granted = granted-own (narrow strict) lent key (first64 5 65) rest later (given-fall strict);
       same = refl;
       clock = (omega arith, (omega arith, (omega arith, (omega arith, (omega arith, (omega arith, (omega arith, tt)))))));
       soon = omega arith;
@@ -88,15 +86,6 @@ can-fall =
 
 -- ---- strict mode says yes, and no
 
--- a block no longer than its size, of exponent at most 6, full if it is marked, is not badly formed
-pub well-formed : (b : BlockValue) (p : ℕ) → b .«size_exponent» < 7 → p ≤ blockSize b → (b .more ≡ true → p ≡ blockSize b) → BadlyFormed b p → ⊥
-well-formed b p six short full (inl seven) = omega arith
-well-formed b p six short full (inr (inl long)) = omega arith
-well-formed b p six short full (inr (inr bad)) = bad .1 (full (bad .0))
-
-next-placed : (a : Assembled) (b : BlockValue) → blockStart b ≡ a .len → b .«size_exponent» ≤ a .exponent → Misplaced a b → ⊥
-next-placed a b start smaller m = ⊎-elim (λ (away : blockStart b ≡ a .len → ⊥). away start) (λ (rises : a .exponent < b .«size_exponent»). omega arith) (m .1)
-
 pub said-yes-and-no : SaidYesAndNo
 unfolding calls
 said-yes-and-no =
@@ -104,13 +93,13 @@ said-yes-and-no =
       second = record {
         five = record { asks = refl; given = refl; placed = record { limits = refl; sixteen = refl; clock = omega arith; place = omega arith }; reply = block 2 false 1; agreed = refl };
         well = well-formed (block 2 true 1) 32 (omega arith) (omega arith) (λ _. refl);
-        next = next-placed _ (block 2 true 1) refl (omega arith);
+        next = next-not-misplaced _ (block 2 true 1) (refl, omega arith);
         fits = omega arith;
       };
       last = record {
         five = record { asks = refl; given = refl; placed = record { limits = refl; sixteen = refl; clock = omega arith; place = omega arith }; reply = block 6 false 0; agreed = refl };
         well = well-formed (block 6 false 0) 2 (omega arith) (omega arith) (λ e. absurd (false≢true e));
-        next = next-placed _ (block 6 false 0) refl (omega arith);
+        next = next-not-misplaced _ (block 6 false 0) (refl, omega arith);
         fits = omega arith;
       };
       five = record { asks = refl; given = refl; placed = record { limits = refl; sixteen = refl; clock = omega arith; place = omega arith }; reply = block 1 false 1; agreed = refl };

@@ -23,7 +23,9 @@ use Rattle.one_call.specs.Strict.{PassesFive}
 use Rattle.demands.specs.Demand3.{Sent, callOn, block, All, AllBytes, Blocks}
 use Rattle.demands.specs.Clocks.{requestsOn, GrantedOwn}
 use Rattle.demands.proofs.Runs.{rising-own}
+use Rattle.one_call.proofs.Checks.{well-formed}
 use Rattle.demands.proofs.Falling.{one-size}
+use Rattle.demands.proofs.Demand3.{granted-own}
 use Rattle.many_calls.specs.Twice.{SentAgain}
 use Rattle.many_calls.specs.Crossing.{among, AllAmong, counted, callsOf, FromFresh, Sends}
 use Rattle.many_calls.specs.Pages.{lastStored}
@@ -31,8 +33,8 @@ use Rattle.cases.specs.Shams.{config, fresh, key, sent, firstBlock, last
 use Rattle.cases.specs.Given.{large, lentWorld, full, sixteenMore, farAgain, keyOfByte, singleOf, pushesOf, onEach, bytes, backwards, refused, answering, crossing}
 use Rattle.cases.specs.Given.{EachSends, goesBack, page, storing, asked, AllCanBeGiven}
 use Rattle.cases.proofs.Computes.{values, limits, calls}
-use Rattle.cases.proofs.Shams.{fresh-free, fresh-nothing, one-block, own, can-be-given}
-use Rattle.cases.proofs.Falling.{blocks-fall, well-formed}
+use Rattle.cases.proofs.Shams.{fresh-free, fresh-nothing, one-block, can-be-given}
+use Rattle.cases.proofs.Falling.{blocks-fall}
 use Rattle.cases.specs.Falling.{narrow, lent, first64, next32, last16}
 
 -- ---- what holds of every call, by one test
@@ -222,14 +224,14 @@ all-can-be-given =
     record {
       twice = λ strict. record {
         blocks = one-size (config strict) 0 _ _ (can-be-given .two strict .0);
-        granted = own (config strict) fresh firstBlock (lastBlock ∷ []) later (can-be-given .two strict .1);
+        granted = granted-own (config strict) fresh key firstBlock (lastBlock ∷ []) later (can-be-given .two strict .1);
         same = refl;
         clock = (omega arith, (omega arith, (omega arith, (omega arith, (omega arith, (omega arith, tt))))));
         soon = omega arith;
       };
       once = λ strict. record {
         blocks = one-size (config strict) 0 _ _ (can-be-given .one strict .0);
-        granted = own (config strict) fresh _ [] [] (can-be-given .one strict .1);
+        granted = granted-own (config strict) fresh key _ [] [] (can-be-given .one strict .1);
         same = refl;
         clock = (omega arith, tt);
         soon = omega arith;

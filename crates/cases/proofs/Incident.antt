@@ -63,7 +63,7 @@ module _ (c : Config) (home at : ℕ) (s : BlockState) (u : List ℕ) (x j a l :
   carried =
       let count : j ≤ numLimit (c .strict) = omega (arith, limit-least (c .strict)) in
       let agreed = agreed-asked c b r (h .numbered) hx count (omega (arith, h .full)) (h .room) in
-      record { size = hx; numbered = h .numbered; full = fills m; alone = h .alone; short = omega (arith, h .room); reply = unmarked b; agreed = agreed }
+      record { size = hx; numbered = h .numbered; full = fills m; alone = h .alone; bare = omega (arith, h .room); reply = unmarked b; agreed = agreed }
     where
       fills : (m : Bool) → Fills m (length (r .payload)) (sizeOf x)
       fills true = h .full

@@ -29,11 +29,10 @@ use Rattle.entries.specs.declared.Entry.{Entry}
 use Rattle.entries.specs.Entries.{free, live}
 use Rattle.answer_sources.specs.Parts.{partOf, bodyOf}
 use Rattle.block_table.specs.Table.{freshTable}
-use Rattle.call.specs.Call.{World, Call}
+use Rattle.call.specs.Call.{World}
 use Rattle.one_call.specs.Handler.{Handler, entryAt}
 use Rattle.demands.specs.Demand3.{Sent, HasFree, HasLive, NothingInPlain, Blocks, Granted, Demand3, callOn, block}
-use Rattle.demands.specs.Clocks.{GrantedOwn}
-use Rattle.demands.proofs.Runs.{fresh-entry, only-asks, own-requests, rising-own}
+use Rattle.demands.proofs.Runs.{fresh-entry}
 use Rattle.cases.specs.Shams.{config, fresh, key, sent, firstBlock, lastBlock, later, wide, used, wideFirst, wideSecond, wideLast, CanBeGiven, Excluded, Exist}
 use Rattle.cases.proofs.Computes.{values, limits, calls}
 
@@ -147,17 +146,6 @@ blocks-three strict =
       room = (omega arith, (omega arith, omega arith));
       fits = omega arith;
       prompt = (omega arith, (omega arith, tt));
-    }
-
--- a push as the mission has it is one as Clocks.antt of demands has it
-pub own : (c : Config) (w : World) (first : Sent) (rest : List Sent) (calls : List Call) → Granted c w key first rest calls → GrantedOwn c w key first rest calls
-own c w first rest calls g =
-    record {
-      entry = g .entry;
-      nothing = g .nothing;
-      within = g .within;
-      own = own-requests key calls (only-asks key calls rest (g .own)) ∙ g .own;
-      clock = rising-own key (w .table .clock) (callOn key first ∷ calls) (g .clock);
     }
 
 pub can-be-given : CanBeGiven

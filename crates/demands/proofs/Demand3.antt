@@ -9,7 +9,7 @@ use Rattle.keys.specs.Keys.{Name, same}
 use Rattle.keys.proofs.Keys.{same-refl}
 use Rattle.call.specs.Call.{World, Call, call}
 use Rattle.call.proofs.Frame.{world-fits, key-within}
-use Rattle.demands.specs.Demand3.{after, Sent, callOn, joined, All, HandsOn, Demand3, lastOf}
+use Rattle.demands.specs.Demand3.{after, Sent, callOn, joined, All, Granted, HandsOn, Demand3, lastOf}
 use Rattle.demands.specs.Falling.{FallingBlocks, Demand3Falling, Extends}
 use Rattle.demands.specs.Clocks.{asks, runOn, GrantedOwn, Demand3Own, Stronger}
 use Rattle.demands.proofs.Runs.{asks-own, only-asks, own-requests, own-seen, seen-cut, none-seen, rising-cut, rising-own}
@@ -37,20 +37,22 @@ demand3-own c w k x first rest later b g =
     subst (λ (l : List Call). HandsOn (joined first rest) (runOn k call c w l)) (sym (p .is))
     (rw (seen-cut call c k (p .front) (p .behind) w, none, append-nil (runOn k call c w (p .front))) (p .hands))
 
-pub stronger : Stronger
-unfolding Stronger Demand3Own Demand3Falling
-stronger h d c w k x first rest later b g =
-    let only = only-asks k later rest (g .own) in
-    let all : All (λ q. asks k q ≡ same k (q .key)) (callOn k first ∷ later) = (rw (same-refl k), only) in
-    let own : GrantedOwn c w k first rest later =
+-- what the mission's demand grants is what Clocks.antt asks
+pub granted-own : (c : Config) (w : World) (k : Name) (first : Sent) (rest : List Sent) (later : List Call) → Granted c w k first rest later → GrantedOwn c w k first rest later
+granted-own c w k first rest later g =
     record {
       entry = g .entry;
       nothing = g .nothing;
       within = g .within;
-      own = own-requests k later only ∙ g .own;
+      own = own-requests k later (only-asks k later rest (g .own)) ∙ g .own;
       clock = rising-own k (w .table .clock) (callOn k first ∷ later) (g .clock);
-    } in
-    rw (own-seen h c k (callOn k first ∷ later) w all) at (d c w k x first rest later b own)
+    }
+
+pub stronger : Stronger
+unfolding Stronger Demand3Own Demand3Falling
+stronger h d c w k x first rest later b g =
+    let all : All (λ q. asks k q ≡ same k (q .key)) (callOn k first ∷ later) = (rw (same-refl k), only-asks k later rest (g .own)) in
+    rw (own-seen h c k (callOn k first ∷ later) w all) at (d c w k x first rest later b (granted-own c w k first rest later g))
 
 -- DEMAND 3 FOR A SENDER THAT GOES SMALLER
 pub demand3-falling : Demand3Falling call

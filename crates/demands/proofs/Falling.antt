@@ -32,7 +32,7 @@ one-size c x first rest b =
       full = b .full;
       alone = b .alone;
       room = each-map (λ j more r. r .bare + 12 + sizeOf x ≤ c .limit) (λ j more r. RoomAsked c j (sizeOf x) (r .bare)) (suc (length rest))
-          (λ j more r few. leaves j r) 0 first rest (omega arith) (b .room);
+          (λ j more r _. leaves j r) 0 first rest (omega arith) (b .room);
       fits = b .fits;
       prompt = b .prompt;
     }
@@ -48,9 +48,9 @@ extends h d c w k x first rest later b g = d c w k (λ j. x) first rest later (o
 -- ---- a smaller size
 
 -- a num that takes a block below 16,777,216 is within strict mode's limit
-few : (num y start : ℕ) → num * sizeOf y ≡ start → start < 16777216 → num < nums true
+within-nums : (num y start : ℕ) → num * sizeOf y ≡ start → start < 16777216 → num < nums true
 unfolding nums byteLimit
-few num y start e h =
+within-nums num y start e h =
     let least : num * 16 ≤ num * sizeOf y = mul-le-mul-left num (size-least y) in
     omega arith
 
@@ -71,4 +71,4 @@ module _ (x : ℕ → ℕ) (six : x 0 ≤ 6) where
       (before .0 + m, add-mul (before .0) m (sizeOf y) ∙ omega (arith, before .1, own))
 
 pub any-smaller-starts : AnySmallerStarts
-any-smaller-starts x j y six falls k = let there = reached x six j y falls k in (there .0, there .1, few (there .0) y _ (there .1))
+any-smaller-starts x j y six falls k = let there = reached x six j y falls k in (there .0, there .1, within-nums (there .0) y _ (there .1))

@@ -34,8 +34,7 @@ use Rattle.request_step.specs.Step.{stepRequest}
 use Rattle.pairing.specs.Pairing.{roomOf, granted, Unmakeable}
 use Rattle.pairing.proofs.Pairing.{pairing}
 use Rattle.one_call.specs.Agreed.{requestAgrees}
-use Rattle.one_call.specs.Strict.{BadlyFormed}
-use Rattle.one_call.proofs.Checks.{and-none, bad-not, NextAt, next-passes, first-passes, first-starts, meets-all, meets-afresh}
+use Rattle.one_call.proofs.Checks.{and-none, well-formed, bad-not, NextAt, next-passes, first-passes, first-starts, meets-all, meets-afresh}
 use Rattle.one_call.proofs.Step.{step-more, step-last}
 use Rattle.demands.specs.Demand3.{block, Fills}
 
@@ -55,17 +54,14 @@ pub record OneBlock (c : Config) (b : BlockValue) (r : Request) : Type 0 where
   pub numbered : requestBlock c (r .block1) ≡ Given b
   pub full : Fills (b .more) (length (r .payload)) (blockSize b)
   pub alone : requestBlock c (r .block2) ≡ Absent
-  pub short : r .bare ≤ c .limit
+  pub bare : r .bare ≤ c .limit
   pub reply : BlockValue
   pub agreed : requestAgrees c r ≡ Block reply
 
 pub form-ok : (c : Config) (b : BlockValue) (r : Request) → OneBlock c b r → (c .strict && badForm b (length (r .payload))) ≡ false
-form-ok c b r one = and-none (c .strict) _ (bad-not b (length (r .payload)) well)
-  where
-    well : BadlyFormed b (length (r .payload)) → ⊥
-    well (inl seven) = omega (arith, one .size)
-    well (inr (inl long)) = omega (arith, fills-most (b .more) _ _ (one .full))
-    well (inr (inr short)) = short .1 (rw (short .0) at (one .full))
+form-ok c b r one =
+    let p : ℕ = length (r .payload) in
+    and-none (c .strict) _ (bad-not b p (well-formed b p (one .size) (fills-most (b .more) _ _ (one .full)) (λ more. rw more at (one .full))))
 
 module _ (c : Config) (b : BlockValue) (r : Request) (numbered : requestBlock c (r .block1) ≡ Given b) (size : b .«size_exponent» ≤ 6) where
   -- a block that is left room comes out of the negotiation as it was asked, with no more, since its payload is no longer than its size

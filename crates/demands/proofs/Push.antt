@@ -61,7 +61,7 @@ limit-most c h = leb-true (c .limit) 65535 (search ands)
 pub message-ok : (c : Config) (r : Request) (b : BlockValue) → configOk c ≡ true → OneBlock c b r → whatOk (request r) ≡ true
 unfolding whatOk
 message-ok c r b ok one =
-    and-both (leb (r .bare) 65535) (leb (length (r .payload)) 65535) (le-leb (r .bare) 65535 (omega (arith, one .short, limit-most c ok)))
+    and-both (leb (r .bare) 65535) (leb (length (r .payload)) 65535) (le-leb (r .bare) 65535 (omega (arith, one .bare, limit-most c ok)))
     (le-leb (length (r .payload)) 65535 (omega (arith, fills-most (b .more) _ _ (one .full), size-most (b .«size_exponent»))))
 
 -- a row with an entry that is not in use has a place for every key
@@ -320,7 +320,7 @@ abbrev marked : List Sent → Bool
 marked [] = false
 marked (t ∷ rest) = true
 
--- what holds of each block whose place in the list is below n, if another thing does
+-- what follows from something that holds of each block, for places below n
 pub each-map : (P Q : ℕ → Bool → Request → Type 0) (n : ℕ) → ((j : ℕ) (more : Bool) (r : Request) → j < n → P j more r → Q j more r)
     → (j : ℕ) (s : Sent) (rest : List Sent) → j + length rest < n → Each P j s rest → Each Q j s rest
 each-map P Q n f j s [] h e = f j false (s .message) (omega arith) e
@@ -347,27 +347,34 @@ block-at : (c : Config) (x : ℕ → ℕ) (j : ℕ) (more : Bool) (r : Request) 
 block-at c x zero more r six n full alone room =
     let b : BlockValue = block (n .num) more (x 0) in
     let a = agreed-first c b r (n .reads) six (starts-first b (n .starts)) room in
-    (n .num, n .starts, record { size = six; numbered = n .reads; full = full; alone = alone; short = omega arith; reply = a .0; agreed = a .1 })
+    (n .num, n .starts, record { size = six; numbered = n .reads; full = full; alone = alone; bare = omega arith; reply = a .0; agreed = a .1 })
 block-at c x (suc j) more r six n full alone room =
     let b : BlockValue = block (n .num) more (x (suc j)) in
     let a = agreed-asked c b r (n .reads) six (omega (arith, n .limit, nums-made (c .strict))) (fills-most more _ _ full) room in
-    (n .num, n .starts, record { size = six; numbered = n .reads; full = full; alone = alone; short = omega arith; reply = unmarked b; agreed = a })
+    (n .num, n .starts, record { size = six; numbered = n .reads; full = full; alone = alone; bare = omega arith; reply = unmarked b; agreed = a })
+
+-- from block j on, which this many follow, none is larger than the one before it
+abbrev FallsFrom : (ℕ → ℕ) → ℕ → ℕ → Type 0
+FallsFrom x j many = (i : ℕ) → j ≤ i → i < j + many → x (suc i) ≤ x i
+
+falls-on : (x : ℕ → ℕ) (j many : ℕ) → FallsFrom x j (suc many) → FallsFrom x (suc j) many
+falls-on x j many falls i l h = falls i (omega arith) (omega arith)
 
 -- what is asked of them, block by block
 pub each-block : (c : Config) (x : ℕ → ℕ) (first : Sent) (rest : List Sent) → FallingBlocks c x first rest → Each (BlockAt c x) 0 first rest
 each-block c x first rest b = from 0 first rest (b .size) (λ i l h. b .falls i (omega arith)) (b .numbered) (b .full) (b .alone) (b .room)
   where
-    from : (j : ℕ) (s : Sent) (rest : List Sent) → x j ≤ 6 → ((i : ℕ) → j ≤ i → i < j + length rest → x (suc i) ≤ x i)
+    from : (j : ℕ) (s : Sent) (rest : List Sent) → x j ≤ 6 → FallsFrom x j (length rest)
         → Each (λ j more r. StartsAt c (startOf x j) (x j) more r) j s rest → Each (λ j more r. Fills more (length (r .payload)) (sizeOf (x j))) j s rest
         → Each (λ j more r. requestBlock c (r .block2) ≡ Absent) j s rest → Each (λ j more r. RoomAsked c j (sizeOf (x j)) (r .bare)) j s rest → Each (BlockAt c x) j s rest
     from j s [] six falls n f a r = block-at c x j false (s .message) six n f a r
     from j s (t ∷ rest) six falls n f a r = (
       block-at c x j true (s .message) six (n .0) (f .0) (a .0) (r .0),
-      from (suc j) t rest (omega (arith, falls j (omega arith) (omega arith))) (λ i l h. falls i (omega arith) (omega arith)) (n .1) (f .1) (a .1) (r .1),
+      from (suc j) t rest (omega (arith, falls j (omega arith) (omega arith))) (falls-on x j _ falls) (n .1) (f .1) (a .1) (r .1),
     )
 
 -- each goes on where the one before it ends
-follow-on : (c : Config) (x : ℕ → ℕ) (j : ℕ) (s : Sent) (rest : List Sent) → ((i : ℕ) → j ≤ i → i < j + length rest → x (suc i) ≤ x i)
+follow-on : (c : Config) (x : ℕ → ℕ) (j : ℕ) (s : Sent) (rest : List Sent) → FallsFrom x j (length rest)
     → (each : Each (BlockAt c x) j s rest) → Follow c (block (each-first (BlockAt c x) j s rest each .0) (marked rest) (x j)) s rest
 unfolding each-first
 follow-on c x j s [] falls each = (each .2, refl)
@@ -378,7 +385,7 @@ follow-on c x j s (t ∷ rest) falls each =
       refl,
       block (next .0) (marked rest) (x (suc j)),
       (ends, falls j (omega arith) (omega arith)),
-      follow-on c x (suc j) t rest (λ i l h. falls i (omega arith) (omega arith)) (each .1),
+      follow-on c x (suc j) t rest (falls-on x j _ falls) (each .1),
     )
 
 pub blocks-follow : (c : Config) (x : ℕ → ℕ) (first : Sent) (rest : List Sent) → FallingBlocks c x first rest

@@ -164,8 +164,7 @@ pub record Blocks (c : Config) (x : ℕ) (first : Sent) (rest : List Sent) : Typ
 
 -- The run is block `first` and then the calls `later`: the rest of the client's blocks, and calls for other keys "between them" (or after the
 -- last). Those are any requests and responses at all, with any numbers and bytes, also such as are refused or start other uploads.
-
--- What it keeps to.
+-- The limits that it keeps to:
 pub record Within (c : Config) (w : World) (k : Name) (first : Sent) (later : List Call) : Type 0 where
   -- Document 01: "the first table and the key's own calls keep to this document's limits": no refusal 1 for the first block, so that the
   -- configuration, both memories, the key and the table are within the limits. (The later blocks have the same key. That their lengths are
@@ -175,7 +174,7 @@ pub record Within (c : Config) (w : World) (k : Name) (first : Sent) (later : Li
   pub sixteen : length (w .table .entries) ≡ 16
   pub bytes : AllBytes (callOn k first ∷ later)
 
--- All but the blocks.
+-- All that is asked beside the client's blocks.
 pub record Granted (c : Config) (w : World) (k : Name) (first : Sent) (rest : List Sent) (later : List Call) : Type 0 where
   -- "Take a key with a live entry or a free one to take ..
   pub entry : HasLive c w (first .time) k ⊎ HasFree c w (first .time)

@@ -66,7 +66,7 @@ pub record FromFresh (c : Config) (w : World) (keys : List Name) (calls : List C
 
 -- ---- One key's pushes
 
--- A push: its blocks are `first` and then `rest`, and the size of block j is 2 to the power exponent j + 4. Each push has its own.
+-- A push: its blocks are `first` and then `rest`, and the size of block j is 16 times 2 to the power `exponent j`. Each push has its own sizes.
 pub record Transfer : Type 0 where
   pub exponent : ℕ → ℕ
   pub first : Sent

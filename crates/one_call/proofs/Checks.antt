@@ -49,6 +49,12 @@ bad-as b p y =
 pub bad-not : (b : BlockValue) (p : ℕ) → (BadlyFormed b p → ⊥) → badForm b p ≡ false
 bad-not b p well = refute (badForm b p) (λ y. well (bad-as b p y))
 
+-- a block of exponent 6 at most, with a payload no longer than its size, and just as long if it is marked
+pub well-formed : (b : BlockValue) (p : ℕ) → b .«size_exponent» ≤ 6 → p ≤ blockSize b → (b .more ≡ true → p ≡ blockSize b) → BadlyFormed b p → ⊥
+well-formed b p six short full (inl seven) = omega arith
+well-formed b p six short full (inr (inl long)) = omega arith
+well-formed b p six short full (inr (inr bad)) = bad .1 (full (bad .0))
+
 pub not-bad : (b : BlockValue) (p : ℕ) → badForm b p ≡ false → BadlyFormed b p → ⊥
 not-bad b p good bad = clash-of (badForm b p) (bad-is b p bad) good
 
@@ -88,6 +94,9 @@ misplaced-as a b y =
           (λ no-larger. inl (λ start. clash-of (notNext a b) y (next-passes a b (start, leb-true (b .«size_exponent») (a .exponent) no-larger))))
           (λ rises. inr (leb-false (b .«size_exponent») (a .exponent) rises)),
     )
+
+pub next-not-misplaced : (a : Assembled) (b : BlockValue) → NextAt (a .len) (a .exponent) b → Misplaced a b → ⊥
+next-not-misplaced a b n m = clash-of (notNext a b) (misplaced-is a b m) (next-passes a b n)
 
 -- ---- where a block starts
 

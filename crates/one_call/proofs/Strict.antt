@@ -1,4 +1,4 @@
--- STRICT MODE SAYS NO. Assumes nothing.
+-- STRICT MODE SAYS NO, AND YES. Assumes nothing.
 use Prim.Native.Nat.{ℕ, _+_, _*_, _≤_, _<_}
 use mathlib.Core.Bool.{true, false, false≢true, _&&_}
 use mathlib.Core.Path.{_≡_, refl, _∙_, ap}
@@ -171,7 +171,7 @@ module _ (c : Config) (w : World) (q : Call) (r : Request) (asks : q .what ≡ r
       answered (λ (a : Answer). a ≡ Refused 9 → Nine) c w q (λ n h e. let z : n ≡ 9 = same-number n 9 e in absurd (omega (arith, h .1))) r asks
       (λ home away u g o. reason home away _ u refl Nine 9 (λ e. omega arith) (why-nine home away _ u refl) g o)
 
--- ---- a block that is taken
+-- ---- strict mode says yes
 
 module _ (c : Config) (w : World) (q : Call) (r : Request) (b : BlockValue) (strict : c .strict ≡ true) (t : Takable c w q r b) where
   abbrev here : ℕ

@@ -130,6 +130,13 @@ pub record StrictSaysNo (h : Handler) : Type 0 where
   pub responses : (c : Config) (w : World) (q : Call) (r : Response) → q .what ≡ response r
       → (r .own ≡ false → OnlyStrictMakes c (recordedFor c w q) (r .bare) → ⊥) → h c w q ≡ h (plainly c) w q
 
+-- Which options both modes read alike: none, and every one that has not just three bytes. And one of three bytes that starts with a zero is read in strict mode as the other
+-- two are in plain mode.
+pub record ReadAlike : Type 0 where
+  pub absent : (c : Config) → requestBlock (plainly c) none ≡ requestBlock c none
+  pub given : (c : Config) (bytes : List ℕ) → (length bytes ≡ 3 → ⊥) → requestBlock (plainly c) (some bytes) ≡ requestBlock c (some bytes)
+  pub shorter : (c : Config) (a b : ℕ) → c .strict ≡ true → requestBlock (plainly c) (some (a ∷ b ∷ [])) ≡ requestBlock c (some (0 ∷ a ∷ b ∷ []))
+
 -- ---- And yes
 
 -- A block that passes checks 1 to 5, is well formed and not misplaced, and whose payload the piece holds. (That its message leaves room for its size is not asked.)
@@ -154,10 +161,3 @@ pub record StrictSaysYes (h : Handler) : Type 0 where
   pub last : (c : Config) (w : World) (q : Call) (r : Request) (b : BlockValue) → c .strict ≡ true → (t : Takable c w q r b) → b .more ≡ false
       → (requestBlock c (r .block2) ≡ Absent) ⊎ (opened (q .key) (rowOf c w q) .state .cached .held ≡ false)
       → (body : Part) × (h c w q .answer ≡ Handed (t .five .reply) body)
-
--- Which options both modes read alike: none, and every one that has not just three bytes. And one of three bytes that starts with a zero is read in strict mode as the other
--- two are in plain mode.
-pub record ReadAlike : Type 0 where
-  pub absent : (c : Config) → requestBlock (plainly c) none ≡ requestBlock c none
-  pub given : (c : Config) (bytes : List ℕ) → (length bytes ≡ 3 → ⊥) → requestBlock (plainly c) (some bytes) ≡ requestBlock c (some bytes)
-  pub shorter : (c : Config) (a b : ℕ) → c .strict ≡ true → requestBlock (plainly c) (some (a ∷ b ∷ [])) ≡ requestBlock c (some (0 ∷ a ∷ b ∷ []))

@@ -21,7 +21,7 @@ use Rattle.block_value.specs.declared.BlockValue.{BlockValue}
 use Rattle.block_value.proofs.Laws.{size-most}
 use Rattle.block_state.specs.declared.Assembled.{Assembled}
 use Rattle.request_block1.specs.declared.Taken.{Taken}
-use Rattle.request_block1.specs.declared.Taken.the-variants.{Refused, More, Body}
+use Rattle.request_block1.specs.declared.Taken.the-variants.{Refused, Body}
 use Rattle.request_block1.specs.Block1.{badForm, notNext, lengthMet, takenAs, taken, pieceTaken, AtMost}
 
 -- ---- whether the block is taken

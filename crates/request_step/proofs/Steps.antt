@@ -42,7 +42,7 @@ module _ (c : Config) (home at : ℕ) (s : BlockState) (u : List ℕ) (block2 : 
     unfolding onNegotiated block1Given
     step-given x t k e = rw (h, k, e)
 
-    -- what goes on from it with its exponent, whatever the piece, is that step
+    -- going on with the block's own exponent comes to that step
     pub step-went : (next : BlockState) (a : Answer) (v : List ℕ) (x : BlockValue) (t : Taken) (exponent : ℕ)
         → ((u : List ℕ) → left next u a ≡ onTaken home at s u block2 exponent b t) → exponent ≡ x .«size_exponent» → v ≡ pieceTaken c (s .assembled) u x payload t
         → block1 ≡ Given x → t ≡ taken c (s .assembled) x (length payload) → left next v a ≡ onNegotiated c home at s u block2 payload block1 reply

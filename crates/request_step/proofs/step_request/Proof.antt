@@ -1,5 +1,4 @@
 use mathlib.Core.Path.{refl, sym, _∙_}
-use Prim.Native.Nat.{_≤_}
 use native.Mathlib.Omega.{arith}
 use Rattle.block_state.proofs.Steps.{returned}
 use Rattle.request_block1.proofs.Taking.{taken-at-most}
