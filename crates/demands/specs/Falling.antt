@@ -52,15 +52,14 @@ RoomAsked c (suc j) size bare = bare + 12 + size ≤ c .limit
 pub record FallingBlocks (c : Config) (x : ℕ → ℕ) (first : Sent) (rest : List Sent) : Type 0 where
   -- Each starts where the one before it ended, all marked "more" but the last, which is unmarked.
   pub numbered : Each (λ j more r. StartsAt c (startOf x j) (x j) more r) 0 first rest
-  -- The sizes, "16 to 1024" bytes, never rise. (So it is enough to say of the first that it is at most 1024.)
+  -- The sizes, from 16 to 1024 bytes, never rise. (So it is enough to say of the first that it is at most 1024.)
   pub size : x 0 ≤ 6
   pub falls : (j : ℕ) → j < length rest → x (suc j) ≤ x j
   -- "Each block full for its own size", but the last, which is no longer.
   pub full : Each (λ j more r. Fills more (length (r .payload)) (sizeOf (x j))) 0 first rest
-  -- As in demand 3: none carries Block2.
-  pub alone : Each (λ j more r. requestBlock c (r .block2) ≡ Absent) 0 first rest
   pub room : Each (λ j more r. RoomAsked c j (sizeOf (x j)) (r .bare)) 0 first rest
-  -- As in demand 3: the body fits its piece, and each block comes sooner than one lifetime after the last.
+  -- As in demand 3: none carries Block2; the body fits its piece; each block comes sooner than one lifetime after the last.
+  pub alone : Each (λ j more r. requestBlock c (r .block2) ≡ Absent) 0 first rest
   pub fits : length (joined first rest) ≤ c .upload
   pub prompt : Prompt (c .lifetime) (first .time) rest
 
