@@ -45,9 +45,10 @@ module _ (at : ℕ) (s : BlockState) (u : List ℕ) (block2 block1 : MaybeBlock)
   onward-absent e = rw e
 
   module _ (b : BlockValue) (e : block2 ≡ Given b) where
-    pub onward-held : s .cached .held ≡ true → onward at s u block2 block1 otherwise ≡ served at (withRecorded s block2) u block1 (chunkOf b (s .cached .payload))
+    pub onward-held : s .cached .held ≡ true → (next : BlockState) → next ≡ withRecorded s block2
+        → onward at s u block2 block1 otherwise ≡ served at next u block1 (chunkOf b (next .cached .payload))
     unfolding onward
-    onward-held h = rw (e, h)
+    onward-held h next its = rw (its, e, h)
 
     pub onward-none : s .cached .held ≡ false → onward at s u block2 block1 otherwise ≡ left (withRecorded s block2) u otherwise
     unfolding onward

@@ -99,28 +99,24 @@ pub fn step_request(
     let block1 = asked.block1;
     let block2 = asked.block2;
     let p = payload.len();
-    match negotiation::negotiate_block_size_if_necessary(config, block1, asked.bare, p) {
-        Negotiated::Refused(n) => state::refused(state, n),
-        Negotiated::NoBlock => request_block2::maybe_handle_request_block2(
-            away,
-            state,
-            block2,
-            MaybeBlock::Absent,
-            Answer::Pass,
-        ),
-        Negotiated::Block(reply) => match block1 {
-            MaybeBlock::Absent => state::answered(state, Answer::TooLarge(reply)),
-            MaybeBlock::Given(block) => {
-                let assembled = state.assembled;
-                let taken = request_block1::handle_request_block1(
-                    config,
-                    assembled,
-                    piece,
-                    payload,
-                    block,
-                );
-                go_on(home, away, state, block2, block.size_exponent, reply, taken)
-            }
-        },
-    }
+    let agreed = negotiation::negotiate_block_size_if_necessary(config, block1, asked.bare, p);
+    let reply = match agreed {
+        Negotiated::Refused(n) => return state::refused(state, n),
+        Negotiated::NoBlock => {
+            return request_block2::maybe_handle_request_block2(
+                away,
+                state,
+                block2,
+                MaybeBlock::Absent,
+                Answer::Pass,
+            )
+        }
+        Negotiated::Block(reply) => reply,
+    };
+    let MaybeBlock::Given(block) = block1 else {
+        return state::answered(state, Answer::TooLarge(reply));
+    };
+    let assembled = state.assembled;
+    let taken = request_block1::handle_request_block1(config, assembled, piece, payload, block);
+    go_on(home, away, state, block2, block.size_exponent, reply, taken)
 }

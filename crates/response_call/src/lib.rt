@@ -32,7 +32,8 @@ fn response_at<'a>(
     head: &'a [u8],
     payload: &'a [u8],
 ) -> Change
-    requires { ⌜ ((k : Name) × (u : ℕ) × (t : Table) × PlacedAt config sight key (numbers .time) (lengths u (length (now response)) (numbers .bare) (length (now payload)) (length (now head))) i k t) ⌝ }
+    requires { ⌜ ((k : Name) × (u : ℕ) × (t : Table)
+        × PlacedAt config sight key (numbers .time) (lengths u (length (now response)) (numbers .bare) (length (now payload)) (length (now head))) i k t) ⌝ }
     ensures { λ r. ⌜ ((k : Name) (u : ℕ) (t : Table)
         → PlacedAt config sight key (numbers .time)
         (lengths u (length (now (response .entry))) (numbers .bare) (length (now (payload .entry))) (length (now (head .entry)))) i k t → (m : List ℕ)

@@ -9,8 +9,7 @@ returns c = λ u.
     let held = c .before in
     let told = held .before .before .before in
     let recorded = told .before .before in
-    rw (recorded .with-recorded .ensures) at (c .serve-cached-response .ensures u)
-    ∙ sym (onward-held _ _ u _ _ _ _ (told .block2 .given .1) (held .if1 .taken))
+    c .serve-cached-response .ensures u ∙ sym (onward-held _ _ u _ _ _ _ (told .block2 .given .1) (held .if1 .taken) _ (recorded .with-recorded .ensures))
 
 returns-2 : tie.Need-returns-2
 returns-2 c = λ u.

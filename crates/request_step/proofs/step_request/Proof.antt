@@ -19,7 +19,7 @@ returns : tie.Need-returns
 returns c =
     let told = c .before .before in
     let agreed = told .before .before in
-    returned _ _ _ _ (c .refused .ensures) ∙ sym (step-refused _ _ _ _ _ _ _ _ _ _ (sym (agreed .negotiate-block-size-if-necessary .ensures) ∙ told .n .given .1))
+    returned _ _ _ _ (c .refused .ensures) ∙ sym (step-refused _ _ _ _ _ _ _ _ _ _ (sym (agreed .negotiate-block-size-if-necessary .ensures) ∙ told .agreed .given .1))
 
 returns-2 : tie.Need-returns-2
 returns-2 c =
@@ -33,7 +33,7 @@ returns-3 c =
     let told = absent .before .before .before in
     let agreed = told .before .before in
     returned _ _ _ _ (c .answered .ensures)
-    ∙ sym (step-large _ _ _ _ _ _ _ _ _ _ (sym (agreed .negotiate-block-size-if-necessary .ensures) ∙ told .reply .given .1) (absent .enum-told2 .given .1))
+    ∙ sym (step-large _ _ _ _ _ _ _ _ _ _ (sym (agreed .negotiate-block-size-if-necessary .ensures) ∙ told .agreed2 .given .1) (absent .enum-told2 .given .1))
 
 returns-4 : tie.Need-returns-4
 returns-4 c =
@@ -41,13 +41,14 @@ returns-4 c =
     let given = taken .before .before .before .before in
     let told = given .before .before .before in
     let agreed = told .before .before in
-    step-went _ _ _ _ _ _ _ _ _ _ (sym (agreed .negotiate-block-size-if-necessary .ensures) ∙ told .reply .given .1) _ _ _ _ _ _
+    step-went _ _ _ _ _ _ _ _ _ _ (sym (agreed .negotiate-block-size-if-necessary .ensures) ∙ told .agreed2 .given .1) _ _ _ _ _ _
     (c .go-on .ensures) refl (taken .handle-request-block1 .ensures .1) (given .block1 .given .1) (taken .handle-request-block1 .ensures .0)
 
 pub step-request-spec : {M : Type 1} → statement M
 step-request-spec =
     tie.close
     (tie.spec
-    (λ c κs. search needs) (λ c. search needs) (λ c κs. search needs) (λ c. search needs) (λ c κs. search needs) (λ c. search needs)
-    (λ c. search needs) (λ c κs. search needs) (λ c. search needs) (λ c κs. search needs) go-on-requires returns returns-2 returns-3
-    (λ c. search needs) returns-4)
+    (λ c κs. search needs) (λ c. search needs) (λ c κs. search needs) returns
+    (λ c. search needs) (λ c κs. search needs) returns-2
+    (λ c. search needs) (λ c. search needs) (λ c. search needs) (λ c κs. search needs) returns-3
+    (λ c κs. search needs) go-on-requires (λ c. search needs) returns-4)
