@@ -1,4 +1,5 @@
 // Where the bytes that an answer shows stand, and its response code.
+#![tactic(auto)]
 ghost use Rattle.std.specs.Prelude.{◌≡◌};
 ghost use Rattle.apart.specs.Answers.{said};
 
@@ -9,7 +10,7 @@ mod sources;
 pub use sources::{body_source, sent_source, served_source};
 
 // Where bytes that an answer shows stand: the whole of the message's payload, or within the memory or payload that they are a part of.
-#[derive(Drop)]
+#[derive(Clone, Copy)]
 pub enum Source {
     Nothing,
     Message,

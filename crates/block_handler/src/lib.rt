@@ -1,4 +1,5 @@
 // The block handler's calls: on a table by value and two lent memories, for any bytes and numbers.
+#![tactic(auto)]
 ghost use Rattle.std.specs.Prelude.{◌≡◌};
 ghost use Rattle.table_change.specs.Change.{changed};
 ghost use Rattle.call.specs.Contract.{world, request_call, response_call, Meant};
@@ -9,7 +10,7 @@ use config::Config;
 use table_change::Change;
 
 // What a call leaves of the table, and what it answers.
-#[derive(Drop)]
+#[derive(Clone, Copy)]
 pub struct Outcome {
     pub table: Table,
     pub answer: Answer,

@@ -1,4 +1,5 @@
 // The bytes of a Block1 or Block2 option: read, write. Both take the mode, which says how many bytes an option may have.
+#![tactic(auto)]
 ghost use Rattle.std.specs.Prelude.{◌≡◌, ◌%◌, ◌^◌, ◌<◌, ◌≤◌, length};
 ghost use Rattle.config.specs.Mode.{nums};
 ghost use Rattle.block_option.specs.Uint.{uint};
@@ -7,7 +8,7 @@ ghost use Rattle.block_option.specs.Option.{unpacked, read_of, packed, written, 
 use block_value::BlockValue;
 
 // What read answers.
-#[derive(Drop)]
+#[derive(Clone, Copy)]
 pub enum Reading {
     Value(BlockValue),
     Unreadable,
@@ -15,7 +16,7 @@ pub enum Reading {
 
 // An option's bytes: the first len of them; the others are 0.
 #[repr(C)]
-#[derive(Drop)]
+#[derive(Clone, Copy)]
 pub struct Written {
     pub len: usize,
     pub bytes: [u8; 3],

@@ -1,4 +1,5 @@
 // One key's state by value, and what a call's step on it answers.
+#![tactic(auto)]
 use block_value::BlockValue;
 use negotiation::MaybeBlock;
 
@@ -6,7 +7,7 @@ pub mod state;
 
 // What is assembled of an upload, cached_request_payload in the Rust: its length, and the exponent of the last block taken.
 #[repr(C)]
-#[derive(Drop)]
+#[derive(Clone, Copy)]
 pub struct Assembled {
     pub len: u32,
     pub exponent: u8,
@@ -14,7 +15,7 @@ pub struct Assembled {
 
 // The cached response, cached_response in the Rust: its head and payload stand at the start of the response piece.
 #[repr(C)]
-#[derive(Drop)]
+#[derive(Clone, Copy)]
 pub struct Cached {
     pub held: bool,
     pub head: u8,
@@ -23,7 +24,7 @@ pub struct Cached {
 
 // The recorded Block2 value, last_request_block2 in the Rust.
 #[repr(C)]
-#[derive(Drop)]
+#[derive(Clone, Copy)]
 pub struct Recorded {
     pub given: bool,
     pub more: bool,
@@ -32,7 +33,7 @@ pub struct Recorded {
 }
 
 #[repr(C)]
-#[derive(Drop)]
+#[derive(Clone, Copy)]
 pub struct BlockState {
     pub assembled: Assembled,
     pub cached: Cached,
@@ -41,7 +42,7 @@ pub struct BlockState {
 
 // The bytes from..to: of the upload memory after Handed, of the response memory after Served, of the response's own payload after Whole and First.
 #[repr(C)]
-#[derive(Drop)]
+#[derive(Clone, Copy)]
 pub struct Part {
     pub from: usize,
     pub to: usize,
@@ -49,7 +50,7 @@ pub struct Part {
 
 // A request's numbers: when it came, its length without the payload, and whether it has a Block1 and a Block2 option.
 #[repr(C)]
-#[derive(Drop)]
+#[derive(Clone, Copy)]
 pub struct RequestNumbers {
     pub time: u64,
     pub bare: usize,
@@ -59,7 +60,7 @@ pub struct RequestNumbers {
 
 // A response's numbers: when it came, its length without the payload, and whether it has a Block2 option of its own.
 #[repr(C)]
-#[derive(Drop)]
+#[derive(Clone, Copy)]
 pub struct ResponseNumbers {
     pub time: u64,
     pub bare: usize,
@@ -67,7 +68,7 @@ pub struct ResponseNumbers {
 }
 
 // What is served from the cache: a Block1 value if the call completed a body, the Block2 value, and the head and the chunk, parts of the response memory.
-#[derive(Drop)]
+#[derive(Clone, Copy)]
 pub struct Served {
     pub block1: MaybeBlock,
     pub block2: BlockValue,
@@ -75,7 +76,7 @@ pub struct Served {
     pub chunk: Part,
 }
 
-#[derive(Drop)]
+#[derive(Clone, Copy)]
 pub enum Answer {
     // 2.31, with the Block1 value.
     Continue(BlockValue),
@@ -97,7 +98,7 @@ pub enum Answer {
 }
 
 // The nine answers by name.
-#[derive(Drop)]
+#[derive(Clone, Copy)]
 pub enum Kind {
     Continue,
     TooLarge,
@@ -112,7 +113,7 @@ pub enum Kind {
 
 // What an answer says: its name, a refusal's number (else 0), the two block values to send, the response code (0 where the response that goes out has its own),
 // the body of Handed or the chunk of Served, Whole and First, and the head of Served; a part from 0 to 0 elsewhere.
-#[derive(Drop)]
+#[derive(Clone, Copy)]
 pub struct Said {
     pub kind: Kind,
     pub number: u8,
@@ -124,7 +125,7 @@ pub struct Said {
 }
 
 // A state with what was answered.
-#[derive(Drop)]
+#[derive(Clone, Copy)]
 pub struct Stepped {
     pub state: BlockState,
     pub answer: Answer,

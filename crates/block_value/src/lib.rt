@@ -1,8 +1,9 @@
 // The block value of a Block1 or Block2 option: make, size, start. Its bytes are in `block_option`.
+#![tactic(auto)]
 ghost use Rattle.std.specs.Prelude.{◌≡◌, ◌*◌, ◌^◌, ◌<◌, ◌≤◌};
 ghost use Rattle.block_value.specs.Value.{largest_power, made, block_size, block_start};
 
-#[derive(Drop)]
+#[derive(Clone, Copy)]
 pub struct BlockValue {
     pub num: u32,
     pub more: bool,
@@ -11,7 +12,7 @@ pub struct BlockValue {
 }
 
 // What make answers.
-#[derive(Drop)]
+#[derive(Clone, Copy)]
 pub enum Made {
     Value(BlockValue),
     Refused,

@@ -1,4 +1,5 @@
 // A script of calls on standard input, its first 8 KiB; an answer a line on standard output.
+#![tactic(auto)]
 ghost use Rattle.std.specs.Prelude.{◌≡◌, ◌≤◌, take};
 ghost use Rattle.buffers.specs.Sizes.{output_size};
 ghost use Rattle.script_state.specs.Start.{begun};

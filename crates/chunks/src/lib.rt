@@ -1,11 +1,12 @@
 // The bounds of a chunk.
+#![tactic(auto)]
 ghost use Rattle.std.specs.Prelude.{◌≡◌};
 ghost use Rattle.chunks.specs.Chunk.{chunk_of};
 
 use block_value::BlockValue;
 
 // The bytes from..to of a payload, with the block value that they are sent under.
-#[derive(Drop)]
+#[derive(Clone, Copy)]
 pub enum Chunk {
     Bytes(BlockValue, usize, usize),
     Refused(u8),

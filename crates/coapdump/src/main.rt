@@ -1,5 +1,6 @@
 // CoAP messages in hex on standard input, one a line and any number of them: the parts of each, a line on standard output. Why a line is
 // unreadable goes to standard error.
+#![tactic(auto)]
 ghost use Rattle.std.specs.Prelude.{◌≡◌, ◌+◌, ◌%◌, ◌^◌, ◌<◌, true, not, [], ◌∷◌, length, if◌then◌else◌};
 ghost use Rattle.line_input.specs.Sizes.{text_size};
 ghost use Rattle.hex_line.specs.Line.{hex_of, is_unread};
@@ -8,14 +9,14 @@ ghost use Rattle.coapdump.specs.Lines.{Room, Says, unread_in, Ended};
 use ending::Ending;
 
 // Whether a line was unreadable, and whether what it says was written.
-#[derive(Drop)]
+#[derive(Clone, Copy)]
 struct Printed {
     unread: bool,
     written: bool,
 }
 
 // How many lines were printed and how many of them are unreadable, where the text starts that has not ended, and whether all was written.
-#[derive(Drop)]
+#[derive(Clone, Copy)]
 struct Rest {
     number: u64,
     unreadable: u64,

@@ -1,10 +1,11 @@
 // The configuration, at the bottom, and the numbers that are a mode's.
+#![tactic(auto)]
 ghost use Rattle.std.specs.Prelude.{◌≡◌, ◌^◌, ◌<◌, ◌≤◌};
 ghost use Rattle.config.specs.Mode.{byte_limit, num_limit, nums};
 
 // BlockHandlerConfig in the Rust, with the mode and the sizes of the pieces.
 #[repr(C)]
-#[derive(Drop)]
+#[derive(Clone, Copy)]
 pub struct Config {
     pub strict: bool,
     // T, max_total_message_size in the Rust.

@@ -1,4 +1,5 @@
 // One entry of the table: its limits, its tag, whether two have one key, the bytes it holds, expiry, and how a key's entry starts.
+#![tactic(auto)]
 ghost use Rattle.std.specs.Prelude.{◌≡◌, true, false, ◌^◌, ◌<◌};
 ghost use Rattle.block_state.specs.State.{nothing};
 ghost use Rattle.keys.specs.Keys.{key_sized};
@@ -12,7 +13,7 @@ use keys::Key;
 use state_limits::Checked;
 
 #[repr(C)]
-#[derive(Drop)]
+#[derive(Clone, Copy)]
 pub struct Entry {
     pub key: Key,
     pub used: bool,

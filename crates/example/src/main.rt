@@ -1,4 +1,5 @@
 // A lane takes a price list of one block, and shows it.
+#![tactic(auto)]
 use block_state::RequestNumbers;
 
 fn main() {

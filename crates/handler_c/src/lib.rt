@@ -1,4 +1,5 @@
 // The handler for programs in C and Rust: its calls on a table and memories that the caller owns, with answers as numbers.
+#![tactic(auto)]
 ghost use Rattle.std.specs.Prelude.{◌≡◌};
 ghost use Rattle.block_option.specs.Option.{read_of, written, in_three};
 ghost use Rattle.block_table.specs.Table.{fresh_table};

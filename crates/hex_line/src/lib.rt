@@ -1,4 +1,5 @@
 // What a line of hex says. Blanks at its ends are no part of it, and its digits are of either case.
+#![tactic(auto)]
 ghost use Rattle.std.specs.Prelude.{◌≡◌, map, ◌+◌, ◌≤◌, length};
 ghost use Rattle.pieces.specs.Memory.{patch};
 ghost use Rattle.line_input.specs.Sizes.{longest};
@@ -11,7 +12,7 @@ use script_fields::Decoded;
 const MOST_DIGITS: usize = 131070;
 
 // Why a line is unreadable.
-#[derive(Drop)]
+#[derive(Clone, Copy)]
 pub enum Why {
     // The line as it stands, which may be cut.
     LongLine,
@@ -22,7 +23,7 @@ pub enum Why {
     Odd,
 }
 
-#[derive(Drop)]
+#[derive(Clone, Copy)]
 pub enum Hex {
     // An empty line, or a comment.
     Skipped,

@@ -1,1 +1,3 @@
 // The form of an image of pending transfers: definitions and their laws. This crate has no code.
+
+#![tactic(auto)]

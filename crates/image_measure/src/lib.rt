@@ -1,4 +1,5 @@
 // How much an image of sixteen entries holds, and where its parts start.
+#![tactic(auto)]
 ghost use Rattle.std.specs.Prelude.{◌≡◌, cond, ◌+◌, ◌^◌, ◌<◌, ◌≤◌, length};
 ghost use Rattle.pieces.specs.Memory.{Put};
 ghost use Rattle.big_endian.specs.Numbers.{in_bytes};
@@ -8,14 +9,14 @@ ghost use Rattle.image_format.specs.Image.{assembled_in, cached_in, upload_start
 use entries::Entry;
 
 // How many bytes each entry has of the upload memory, and of the response memory.
-#[derive(Drop)]
+#[derive(Clone, Copy)]
 pub struct Lengths {
     pub upload: [usize; 16],
     pub response: [usize; 16],
 }
 
 // How many rows there are, where the upload bytes and the response bytes start, and where the image ends.
-#[derive(Drop)]
+#[derive(Clone, Copy)]
 pub struct Extent {
     pub rows: usize,
     pub uploads: usize,

@@ -1,4 +1,5 @@
 // Loading an image into a fresh table: judged first, as a whole, before a byte is written.
+#![tactic(auto)]
 ghost use Rattle.std.specs.Prelude.{◌≡◌, true, false, ◌&&◌, ◌+◌, ◌*◌, ◌^◌, ◌<◌, ◌≤◌, length, take, drop, eqb};
 ghost use Rattle.pieces.specs.Memory.{part};
 ghost use Rattle.big_endian.specs.Numbers.{number_at};
@@ -17,14 +18,14 @@ use config::Config;
 use entries::Entry;
 
 // A refusal, or 0, and the table that is left.
-#[derive(Drop)]
+#[derive(Clone, Copy)]
 pub struct Loaded {
     pub refusal: u8,
     pub table: Table,
 }
 
 // Whether an image is one to load, and the table that it describes.
-#[derive(Drop)]
+#[derive(Clone, Copy)]
 pub struct Judged {
     pub ok: bool,
     pub table: Table,

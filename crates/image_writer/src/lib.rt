@@ -1,4 +1,5 @@
 // Saving the live entries of a table, with their bytes, as an image.
+#![tactic(auto)]
 ghost use Rattle.std.specs.Prelude.{◌≡◌, length};
 ghost use Rattle.pieces.specs.Memory.{patch};
 ghost use Rattle.call.specs.Contract.{world};
@@ -12,7 +13,7 @@ use entries::Entry;
 
 // A refusal, or 0, and how many bytes the image has: where the output is too small, how many it needs.
 #[repr(C)]
-#[derive(Drop)]
+#[derive(Clone, Copy)]
 pub struct Saved {
     pub refusal: u8,
     pub length: usize,

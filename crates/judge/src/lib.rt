@@ -1,4 +1,5 @@
 // The checks 1, 2 and 3 before a step, and the key's place.
+#![tactic(auto)]
 ghost use Rattle.std.specs.Prelude.{◌≡◌, ◌&&◌, ◌≤◌};
 ghost use Rattle.judge.specs.Limits.{between, config_ok, memories_ok};
 ghost use Rattle.judge.specs.Verdict.{message_ok, verdict_at, verdict_by};
@@ -7,7 +8,7 @@ use config::Config;
 use places::{Place, Sight};
 
 // What the checks before a step come to.
-#[derive(Drop)]
+#[derive(Clone, Copy)]
 pub enum Verdict {
     Refused(u8),
     // The entry's index.
@@ -15,7 +16,7 @@ pub enum Verdict {
 }
 
 // The lengths of both memories, and of the message: without payload, of its payload, and of its head (0 for a request).
-#[derive(Drop)]
+#[derive(Clone, Copy)]
 pub struct Lengths {
     pub upload: usize,
     pub response: usize,

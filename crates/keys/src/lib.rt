@@ -1,19 +1,20 @@
 // A stored key: its limits, its bytes, its tag, and when two are the same; and the form of a named one, which `named_keys` makes. Only these two crates and the text of
 // the state look inside a `Key`.
+#![tactic(auto)]
 ghost use Rattle.std.specs.Prelude.{◌≡◌, true, ◌+◌, ◌≤◌, length, take, eqb};
 ghost use Rattle.pieces.specs.Memory.{Put};
 ghost use Rattle.keys.specs.Lists.{all};
 ghost use Rattle.keys.specs.Keys.{same, key_of, stored_ok, stored, no_key, is_no_key, key_sized, tag_of};
 
 #[repr(C)]
-#[derive(Drop)]
+#[derive(Clone, Copy)]
 pub struct Key {
     pub bytes: [u8; 64],
     pub len: u8,
 }
 
 // A key as a call names it, copied once: whether it is within its limits, and then its tag, and the key as an entry stores it.
-#[derive(Drop)]
+#[derive(Clone, Copy)]
 pub struct NamedKey {
     pub ok: bool,
     pub tag: u32,

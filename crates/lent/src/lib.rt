@@ -1,4 +1,5 @@
 // The lent forms of document 01: one key's entry by `&mut`, and the table's entries as a lent row.
+#![tactic(auto)]
 ghost use Rattle.std.specs.Prelude.{◌≡◌};
 ghost use Rattle.block_state.specs.Contract.{asking, replying};
 ghost use Rattle.entries.specs.Entries.{holds, sweep};
@@ -13,7 +14,7 @@ use replies::Reply;
 
 // What a walk has seen of the row so far: the first entry for the key and the first free one, each the number of entries seen if there is none;
 // and the place that sixteen entries seen so would give.
-#[derive(Drop)]
+#[derive(Clone, Copy)]
 pub struct Seen {
     pub found: usize,
     pub free: usize,

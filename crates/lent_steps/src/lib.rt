@@ -1,4 +1,5 @@
 // A call's step on an entry by value, with the answer in numbers.
+#![tactic(auto)]
 ghost use Rattle.std.specs.Prelude.{◌≡◌};
 ghost use Rattle.block_state.specs.Contract.{asking, replying};
 ghost use Rattle.entries.specs.Entries.{in_use};
@@ -11,7 +12,7 @@ use entries::Entry;
 use replies::Reply;
 
 // What a call leaves of an entry, and its answer in numbers.
-#[derive(Drop)]
+#[derive(Clone, Copy)]
 pub struct Outcome {
     pub entry: Entry,
     pub reply: Reply,

@@ -1,4 +1,5 @@
 // The lines of standard input, of any length: read on, with the text that has not ended kept; and output that is written.
+#![tactic(auto)]
 ghost use Rattle.std.specs.Prelude.{◌≡◌, true, cond, ◌+◌, ◌-◌, ◌^◌, ◌≤◌, ◌<◌, min, eqb, length, take, replicate, pos};
 ghost use Rattle.std.specs.Int.Signed.{lt_z};
 ghost use Rattle.io.specs.Counts.{IsPrefixLen, clamp_len};
@@ -23,7 +24,7 @@ pub fn text() -> [u8; TEXT]
 }
 
 // Where the text ends now, and whether the read failed.
-#[derive(Drop)]
+#[derive(Clone, Copy)]
 pub struct Took {
     pub end: usize,
     pub failed: bool,

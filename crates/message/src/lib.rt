@@ -1,5 +1,6 @@
 // CoAP messages (RFC 7252), read where they stand: parts of the message, never copies. `from_bytes` judges the whole message before it shows any
 // part. The other functions are for a message that it took, and say the same of any bytes.
+#![tactic(auto)]
 ghost use Rattle.std.specs.Prelude.{◌≡◌, ◌+◌, ◌-◌, ◌*◌, ◌≤◌, ◌<◌, length};
 ghost use Rattle.pieces.specs.Memory.{within};
 ghost use Rattle.message_format.specs.Format.{head_ok};
@@ -11,7 +12,7 @@ use option_reader::Ends;
 pub use option_reader::{Found, Part, nth_option};
 
 // A message, by what its head says and where its parts stand in it.
-#[derive(Drop)]
+#[derive(Clone, Copy)]
 pub struct Packet {
     // 0 CON, 1 NON, 2 ACK, 3 RST.
     pub message_type: u8,
@@ -24,7 +25,7 @@ pub struct Packet {
     pub payload: Part,
 }
 
-#[derive(Drop)]
+#[derive(Clone, Copy)]
 pub enum Reading {
     Message(Packet),
     // 11: malformed, or an option number above 65,535.

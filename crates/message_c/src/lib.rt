@@ -1,4 +1,5 @@
 // The reader, the writer and the table of options for programs in C and Rust: on bytes that the caller owns, with answers as numbers.
+#![tactic(auto)]
 ghost use Rattle.std.specs.Prelude.{◌≡◌};
 ghost use Rattle.one_option.specs.Index.{next_at};
 ghost use Rattle.option_reader.specs.Reader.{found_from};
@@ -13,7 +14,7 @@ use option_table::Length;
 
 // A message that was read: where its parts stand in it. Refused, all else is 0.
 #[repr(C)]
-#[derive(Drop)]
+#[derive(Clone, Copy)]
 pub struct ReadMessage {
     // 11 for a refusal, else 0.
     pub refusal: u8,
@@ -32,7 +33,7 @@ pub struct ReadMessage {
 
 // What stands where an option may begin. All is 0 but the kind where it is none.
 #[repr(C)]
-#[derive(Drop)]
+#[derive(Clone, Copy)]
 pub struct OptionAt {
     // 0 none, 1 an option, 2 malformed.
     pub kind: u8,
@@ -42,7 +43,7 @@ pub struct OptionAt {
 
 // What was written: so many bytes, at the start of the output. Refused, none.
 #[repr(C)]
-#[derive(Drop)]
+#[derive(Clone, Copy)]
 pub struct WrittenMessage {
     // 21 for a refusal, else 0.
     pub refusal: u8,

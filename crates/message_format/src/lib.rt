@@ -2,7 +2,8 @@
 
 // What stands where an option may begin: an option and where its value stands, the end of the options, or neither. Places count from where the
 // bytes begin that were handed over.
-#[derive(Drop)]
+#![tactic(auto)]
+#[derive(Clone, Copy)]
 pub enum Next {
     Option { number: u16, from: usize, to: usize },
     End,

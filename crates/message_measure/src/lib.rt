@@ -1,11 +1,12 @@
 // Whether a message is taken, before a byte of it is written.
+#![tactic(auto)]
 ghost use Rattle.std.specs.Prelude.{◌≡◌, cond, true, ℕ, ◌+◌, ◌≤◌, leb, eqb, length};
 ghost use Rattle.message_format.specs.Format.{extension, payload_bytes};
 ghost use Rattle.message_measure.specs.Given.{given, takes};
 ghost use Rattle.message_measure.specs.Rooms.{room_after, room_after_option};
 
 // What is left of the output, or that it is too small or the options have no encoding.
-#[derive(Drop)]
+#[derive(Clone, Copy)]
 enum Room {
     Left(usize),
     Small,

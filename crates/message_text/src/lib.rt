@@ -1,4 +1,5 @@
 // The line of a message, and what is said of a line of hex.
+#![tactic(auto)]
 ghost use Rattle.std.specs.Prelude.{◌≡◌, ◌++◌, ◌+◌, ◌*◌, ◌≤◌, length};
 ghost use Rattle.pieces.specs.Memory.{Put};
 ghost use Rattle.message_format.specs.Format.{meaning_of};
@@ -36,7 +37,7 @@ fn put_message(out: &mut [u8], at: usize, number: u64, message: &[u8]) -> usize
 }
 
 // Where what is said of a line ends, and what its hex says.
-#[derive(Drop)]
+#[derive(Clone, Copy)]
 pub struct Shown {
     pub end: usize,
     pub hex: Hex,

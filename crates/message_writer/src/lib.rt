@@ -1,10 +1,11 @@
 // CoAP messages (RFC 7252), written into a lent buffer: measured before the first byte, so a refused one leaves it untouched.
+#![tactic(auto)]
 mod put;
 
 ghost use Rattle.message_measure.specs.Given.{given};
 ghost use Rattle.message_writer.specs.Writer.{Writes};
 
-#[derive(Drop)]
+#[derive(Clone, Copy)]
 pub enum Writing {
     // So many bytes, at the start of the output.
     Written(usize),

@@ -1,4 +1,5 @@
 // The key that a call names, read once.
+#![tactic(auto)]
 ghost use Rattle.std.specs.Prelude.{◌≡◌, ◌≤◌, length, take};
 ghost use Rattle.keys.specs.Keys.{key_ok, stored, named_of};
 

@@ -1,4 +1,5 @@
 // The size negotiation, and the option that counts as absent.
+#![tactic(auto)]
 ghost use Rattle.std.specs.Prelude.{◌≡◌, ◌^◌, ◌<◌, ◌≤◌, min};
 ghost use Rattle.block_value.specs.Value.{block_size, block_start};
 ghost use Rattle.negotiation.specs.Negotiation.{option_of, request_block, reply_of, reply_at, negotiated};
@@ -10,14 +11,14 @@ use config::Config;
 // The most that a Block1 and a Block2 option add to a message.
 const BLOCK_OPTIONS_MAX_LENGTH: usize = 12;
 
-#[derive(Drop)]
+#[derive(Clone, Copy)]
 pub enum MaybeBlock {
     Absent,
     Given(BlockValue),
 }
 
 // What the negotiation comes to.
-#[derive(Drop)]
+#[derive(Clone, Copy)]
 pub enum Negotiated {
     NoBlock,
     Block(BlockValue),

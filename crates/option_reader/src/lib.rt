@@ -1,4 +1,5 @@
 // The options of a message, taken one by one.
+#![tactic(auto)]
 ghost use Rattle.std.specs.Prelude.{◌≡◌, cond, ◌&&◌, eqb, ◌-◌, ◌≤◌, length, drop};
 ghost use Rattle.message_format.specs.Format.{options_of};
 ghost use Rattle.option_reader.specs.Reader.{RunOf, ends_of, found_from};
@@ -7,14 +8,14 @@ use message_format::Next;
 
 // The bytes from `from` on, up to `to` and without it. The reader stands apart from the handler, which has a `Part` of its own.
 #[repr(C)]
-#[derive(Drop)]
+#[derive(Clone, Copy)]
 pub struct Part {
     pub from: usize,
     pub to: usize,
 }
 
 // What a run of options comes to: how many bytes are left after it, with the last number; or at the end of the options.
-#[derive(Drop)]
+#[derive(Clone, Copy)]
 enum Run {
     More { left: usize, number: u16 },
     End(usize),
@@ -22,14 +23,14 @@ enum Run {
 }
 
 // How many bytes are left where the options end.
-#[derive(Drop)]
+#[derive(Clone, Copy)]
 pub enum Ends {
     Left(usize),
     Malformed,
 }
 
 // Where an option's value stands.
-#[derive(Drop)]
+#[derive(Clone, Copy)]
 pub enum Found {
     At(Part),
     Absent,

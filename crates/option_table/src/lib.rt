@@ -1,9 +1,10 @@
 // The CoAP options that RFC 7252, RFC 7641 and RFC 7959 register, and the lengths that a value may have.
+#![tactic(auto)]
 ghost use Rattle.std.specs.Prelude.{◌≡◌};
 ghost use Rattle.option_table.specs.Options.{table, columns_of, limited, allowed_of};
 
 // Whether a number is in the table, and a length within its limits.
-#[derive(Drop)]
+#[derive(Clone, Copy)]
 pub enum Length {
     Unknown,
     Allowed,
@@ -22,7 +23,7 @@ const MOST: [u16; 19] = [
 ];
 
 // The three columns, which are those of the table that the definitions speak of.
-#[derive(Drop)]
+#[derive(Clone, Copy)]
 struct Columns {
     numbers: [u16; 19],
     least: [u16; 19],

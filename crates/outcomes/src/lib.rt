@@ -1,4 +1,5 @@
 // What the two calls change of a table by value, with the answer in numbers.
+#![tactic(auto)]
 ghost use Rattle.call.specs.Contract.{world, request_call, response_call};
 ghost use Rattle.table_change.specs.Change.{changed};
 ghost use Rattle.outcomes.specs.Contract.{Replies};
@@ -10,7 +11,7 @@ use replies::Reply;
 use table_change::Change;
 
 // A call's answer in numbers, and what it changes of the table.
-#[derive(Drop)]
+#[derive(Clone, Copy)]
 pub struct Outcome {
     pub reply: Reply,
     pub change: Change,

@@ -1,4 +1,5 @@
 // Lent memory: bytes copied into it, zeros filled in, and a part of it lent on.
+#![tactic(auto)]
 ghost use Rattle.std.specs.Prelude.{◌∷◌, [], ◌≡◌, ◌+◌, ◌<◌, ◌≤◌, length, replicate};
 ghost use Rattle.pieces.specs.Memory.{patch, within, Put};
 

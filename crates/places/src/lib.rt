@@ -1,4 +1,5 @@
 // What a call sees of the table, with the place of its key: the entry in use for it, else the lowest free one.
+#![tactic(auto)]
 ghost use Rattle.std.specs.Prelude.{◌≡◌, true, cond, ◌&&◌, ◌^◌, ◌<◌, length, leb, eqb};
 ghost use Rattle.keys.specs.Lists.{find};
 ghost use Rattle.keys.specs.Keys.{Name, key_of, named_of};
@@ -16,7 +17,7 @@ use entries::Entry;
 use keys::{Key, NamedKey};
 
 // The place of a key in the row that a sweep would leave.
-#[derive(Drop)]
+#[derive(Clone, Copy)]
 pub enum Place {
     // The index of the entry in use for it, else of the lowest free one.
     At(usize),
@@ -27,7 +28,7 @@ pub enum Place {
 }
 
 // What the tags tell of the place: nothing, where two of them are equal.
-#[derive(Drop)]
+#[derive(Clone, Copy)]
 pub enum Quick {
     Sure(Place),
     TagsEqual,
@@ -35,7 +36,7 @@ pub enum Quick {
 
 // What a call needs of the table: its clock and its figure, the place of the key, the entry that stands there now, before any sweep, with its index (the first entry
 // where there is no place), whether a sweep would free an entry in use, and what the others hold that it would keep.
-#[derive(Drop)]
+#[derive(Clone, Copy)]
 pub struct Sight {
     pub clock: u64,
     pub held: u64,
@@ -48,7 +49,7 @@ pub struct Sight {
 
 // What a walk has seen so far: whether all is within the limits, whether an entry is expired, the first entry that is not live, or 16, and the bytes that it counted, in
 // all entries and in those that are expired.
-#[derive(Drop)]
+#[derive(Clone, Copy)]
 pub struct Seen {
     pub ok: bool,
     pub freed: bool,

@@ -1,4 +1,5 @@
 // A script of any length on standard input, with lines that start afresh and lines that show the state.
+#![tactic(auto)]
 ghost use Rattle.std.specs.Prelude.{◌≡◌, length};
 ghost use Rattle.line_input.specs.Sizes.{text_size};
 ghost use Rattle.line_runner.specs.Line.{Lent};

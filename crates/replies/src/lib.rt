@@ -1,4 +1,5 @@
 // Answers in numbers, as they cross to C, and where the bytes stand that they show.
+#![tactic(auto)]
 use block_state::{Part, Recorded};
 
 mod numbers;
@@ -7,7 +8,7 @@ pub use numbers::{body_in, chunk_in, found_in, reply_of, sent_in, served_head_in
 
 // An answer in numbers.
 #[repr(C)]
-#[derive(Drop)]
+#[derive(Clone, Copy)]
 pub struct Reply {
     // 0 Refused, 1 Continue, 2 TooLarge, 3 Handed, 4 Pass, 5 Served, 6 Plain, 7 Whole, 8 First.
     pub kind: u8,
@@ -28,7 +29,7 @@ pub struct Reply {
 // the upload memory for a body, the response memory for a served head or chunk, the payload for the chunk that a response sends. Place 0: no bytes, since
 // the answer has none or names a part that is not there.
 #[repr(C)]
-#[derive(Drop)]
+#[derive(Clone, Copy)]
 pub struct Found {
     pub place: u8,
     pub from: usize,

@@ -1,4 +1,5 @@
 // A request's Block1 value: strict mode's checks, and the block spliced into the key's piece of the upload memory.
+#![tactic(auto)]
 ghost use Rattle.std.specs.Prelude.{◌≡◌, ◌≤◌, length};
 ghost use Rattle.request_block1.specs.Block1.{bad_form, not_next, length_met, taken_as, taken, piece_taken};
 
@@ -8,7 +9,7 @@ use config::Config;
 use splicing::Splice;
 
 // What taking a block comes to: more are awaited after n bytes, or n bytes are the body.
-#[derive(Drop)]
+#[derive(Clone, Copy)]
 pub enum Taken {
     Refused(u8),
     More(usize),

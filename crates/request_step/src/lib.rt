@@ -1,4 +1,5 @@
 // A request's step, on its key's state and its piece of the upload memory: Block1, then Block2.
+#![tactic(auto)]
 ghost use Rattle.std.specs.Prelude.{◌≡◌, List, ℕ, ◌^◌, ◌<◌, length};
 ghost use Rattle.block_state.specs.Step.{left};
 ghost use Rattle.block_state.specs.Contract.{Room};
@@ -12,7 +13,7 @@ use negotiation::{MaybeBlock, Negotiated};
 use request_block1::Taken;
 
 // A request's numbers, once its options are read.
-#[derive(Drop)]
+#[derive(Clone, Copy)]
 pub struct Asked {
     pub time: u64,
     pub bare: usize,

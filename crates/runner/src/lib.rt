@@ -1,4 +1,5 @@
 // The run of a script, line by line, which both programs make.
+#![tactic(auto)]
 ghost use Rattle.std.specs.Prelude.{◌≡◌, not};
 
 use ending::Ending;
@@ -10,7 +11,7 @@ mod lines;
 pub use lines::{run_last, run_lines};
 
 // What many lines leave, and where the text starts that has not ended.
-#[derive(Drop)]
+#[derive(Clone, Copy)]
 pub struct Rest {
     pub step: Step,
     pub from: usize,

@@ -1,10 +1,11 @@
 // A line of a script, over lent slices: what its six fields say.
+#![tactic(auto)]
 mod read;
 
 pub use read::read_line;
 
 // What a request and a response share. The key stands at the start of the buffer, the payload behind it, up to these indices.
-#[derive(Drop)]
+#[derive(Clone, Copy)]
 pub struct Call {
     pub time: u64,
     pub bare: usize,
@@ -12,14 +13,14 @@ pub struct Call {
     pub payload: usize,
 }
 
-#[derive(Drop)]
+#[derive(Clone, Copy)]
 pub enum Called {
     Call(Call),
     Bad,
 }
 
 // A request: which block options it has, and where their bytes end, behind the payload and behind each other.
-#[derive(Drop)]
+#[derive(Clone, Copy)]
 pub struct Request {
     pub call: Call,
     pub given1: bool,
@@ -29,14 +30,14 @@ pub struct Request {
 }
 
 // A response: whether the option is its own, and where the head ends, behind the payload.
-#[derive(Drop)]
+#[derive(Clone, Copy)]
 pub struct Response {
     pub call: Call,
     pub own: bool,
     pub head: usize,
 }
 
-#[derive(Drop)]
+#[derive(Clone, Copy)]
 pub enum Line {
     Request(Request),
     Response(Response),

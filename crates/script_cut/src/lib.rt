@@ -1,9 +1,10 @@
 // A line cut at a mark, and into six fields with a space between each two.
+#![tactic(auto)]
 ghost use Rattle.std.specs.Prelude.{◌≡◌, ◌≤◌, ◌<◌, length};
 ghost use Rattle.script_cut.specs.Cut.{UpTo, Next, Fields, Parts, field_of};
 
 // Where six fields start, and where the first five end: each at a space.
-#[derive(Drop)]
+#[derive(Clone, Copy)]
 pub struct Ends {
     pub start: usize,
     pub first: usize,
@@ -13,7 +14,7 @@ pub struct Ends {
     pub fifth: usize,
 }
 
-#[derive(Drop)]
+#[derive(Clone, Copy)]
 pub enum Split {
     Six(Ends),
     Other,

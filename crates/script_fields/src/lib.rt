@@ -1,16 +1,17 @@
 // The fields of a line: decimals, bytes in hex, and block options.
+#![tactic(auto)]
 ghost use Rattle.std.specs.Prelude.{◌≡◌, ◌+◌, ◌*◌, ◌≤◌, length};
 ghost use Rattle.script_fields.specs.Fields.{is_digit, number_of, nibble, is_mark, pairs_decoded, pairs_of, is_bytes, bytes_of, is_given, is_option, option_bytes, Filled, Reads};
 
 // What a decimal field says.
-#[derive(Drop)]
+#[derive(Clone, Copy)]
 pub enum Number {
     Value(u64),
     Bad,
 }
 
 // What a field of bytes says: where they end in the buffer.
-#[derive(Drop)]
+#[derive(Clone, Copy)]
 pub enum Decoded {
     Bytes(usize),
     Bad,

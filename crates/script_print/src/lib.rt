@@ -1,4 +1,5 @@
 // What a line prints: an answer, or that it cannot be read.
+#![tactic(auto)]
 ghost use Rattle.std.specs.Prelude.{◌≡◌, ◌+◌, ◌≤◌, length};
 ghost use Rattle.pieces.specs.Memory.{Put};
 ghost use Rattle.script.specs.Line.{unreadable};

@@ -1,4 +1,5 @@
 // Where a script stands, and what a program does around its lines: the start, the count, the output that waits.
+#![tactic(auto)]
 ghost use Rattle.std.specs.Prelude.{◌≡◌, ◌≤◌, true, false, length, if◌then◌else◌, nat_lt};
 ghost use Rattle.pieces.specs.Memory.{Put};
 ghost use Rattle.script_state.specs.Start.{script_config, header, begun, counted_in, much};
@@ -7,7 +8,7 @@ use block_table::Table;
 use config::Config;
 
 // Where the script stands: the configuration, the table, the number of the last line, and how many lines were unreadable.
-#[derive(Drop)]
+#[derive(Clone, Copy)]
 pub struct State {
     pub config: Config,
     pub table: Table,
@@ -16,7 +17,7 @@ pub struct State {
 }
 
 // What a line leaves, where the next output goes, and whether all output that is due was written.
-#[derive(Drop)]
+#[derive(Clone, Copy)]
 pub struct Step {
     pub state: State,
     pub at: usize,

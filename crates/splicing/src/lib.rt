@@ -1,4 +1,5 @@
 // The splice of a block into one piece of lent memory.
+#![tactic(auto)]
 ghost use Rattle.std.specs.Prelude.{◌≡◌, ◌+◌, ◌-◌, ◌^◌, ◌≤◌, ◌<◌, max, length};
 ghost use Rattle.splicing.specs.Splice.{spliced_length, splice_of, piece_after, left_by, room_in};
 
@@ -6,7 +7,7 @@ ghost use Rattle.splicing.specs.Splice.{spliced_length, splice_of, piece_after, 
 const MAXIMUM_UNCOMMITTED_BUFFER_RESERVE_LENGTH: usize = 16384;
 
 // What a splice answers.
-#[derive(Drop)]
+#[derive(Clone, Copy)]
 pub enum Splice {
     // The new length of the body.
     Body(usize),

@@ -1,4 +1,5 @@
 // The limits of one key's state, which a lent table may be off, and the bytes that it holds.
+#![tactic(auto)]
 ghost use Rattle.std.specs.Prelude.{◌≡◌, ◌+◌, ◌^◌, ◌<◌};
 ghost use Rattle.block_state.specs.State.{assembled_ok, cached_ok, recorded_ok, state_ok, is_nothing};
 ghost use Rattle.block_state.specs.Held.{held_in, held_of};
@@ -8,7 +9,7 @@ use config::Config;
 
 // What is found where something may be off its limits: whether it is within them, and how many bytes it holds, which are below 2^34 even off them. One look
 // gives both, since a call has to look at every entry.
-#[derive(Drop)]
+#[derive(Clone, Copy)]
 pub struct Checked {
     pub ok: bool,
     pub bytes: u64,

@@ -1,4 +1,5 @@
 // The state on one line: clock, bytes held, entries in use, and the numbers of the memories.
+#![tactic(auto)]
 use block_table::Table;
 use entries::Entry;
 

@@ -1,4 +1,5 @@
 // What a call changes of a table.
+#![tactic(auto)]
 ghost use Rattle.std.specs.Prelude.{◌≡◌, ◌^◌, ◌<◌};
 ghost use Rattle.table_change.specs.Change.{changed, unchanged, opened_from, change_to};
 
@@ -10,7 +11,7 @@ use keys::Key;
 use places::Sight;
 
 // The entries that are not live may have to be freed, the clock is set, and one entry is put in its place; then the table holds so many bytes.
-#[derive(Drop)]
+#[derive(Clone, Copy)]
 pub struct Change {
     pub freed: bool,
     pub clock: u64,
