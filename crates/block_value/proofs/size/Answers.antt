@@ -1,0 +1,6 @@
+use Rattle.block_value.proofs.Laws.{size-shifted}
+use borrow.Author.Rules.{rules}
+use Rattle.block_value.proofs.size.Goals as goal
+
+pub returns : goal.returns
+returns c = size-shifted c.args.block.size_exponent
