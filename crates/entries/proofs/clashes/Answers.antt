@@ -1,7 +1,6 @@
 use mathlib.Core.Path.{sym, ◌∙◌}
 use borrow.Author.Tests.{not-true, not-false}
 use Rattle.entries.proofs.Quick.{no-clash, no-clash-2, clash-as}
-use borrow.Author.Rules.{rules}
 use Rattle.entries.proofs.clashes.Goals as goal
 
 pub returns-then-not-e : goal.returns-then-not-e

@@ -2,7 +2,6 @@ use native.Mathlib.Omega.{arith}
 use mathlib.Core.Path.{sym}
 use Rattle.entries.proofs.Cases.{sized-used, sized-free}
 use Rattle.entries.proofs.Held.{held-unused}
-use borrow.Author.Rules.{rules}
 use Rattle.entries.proofs.entry_checked.Goals as goal
 
 pub returns-then-e : goal.returns-then-e

@@ -1,4 +1,3 @@
-use borrow.Author.Rules.{rules}
 use Rattle.entries.proofs.free_entry.Goals as goal
 
 pub returns : goal.returns

@@ -1,5 +1,4 @@
 use Rattle.entries.specs.Entries.{entry_ok}
-use borrow.Author.Rules.{rules}
 use Rattle.entries.proofs.free_ok.Goals as goal
 
 pub returns : goal.returns

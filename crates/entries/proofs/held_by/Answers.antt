@@ -1,6 +1,5 @@
 use Rattle.entries.specs.Held.{held_by}
 use native.Mathlib.Omega.{arith}
-use borrow.Author.Rules.{rules}
 use Rattle.entries.proofs.held_by.Goals as goal
 
 pub returns-then-e : goal.returns-then-e

@@ -1,7 +1,6 @@
 use mathlib.Core.Path.{sym, ◌∙◌}
 use Rattle.entries.proofs.Cases.{live-as}
 use Rattle.entries.proofs.Entries.{swept-live, swept-dead}
-use borrow.Author.Rules.{rules}
 use Rattle.entries.proofs.swept_entry.Goals as goal
 
 pub returns-then-is_live : goal.returns-then-is_live

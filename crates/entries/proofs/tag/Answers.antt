@@ -1,5 +1,4 @@
 use Rattle.entries.specs.Quick.{tag_of}
-use borrow.Author.Rules.{rules}
 use Rattle.entries.proofs.tag.Goals as goal
 
 pub returns-then-e : goal.returns-then-e

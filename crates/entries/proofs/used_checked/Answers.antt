@@ -1,6 +1,5 @@
 use Rattle.entries.specs.Entries.{entry_ok}
 use Rattle.entries.specs.Held.{held_by}
-use borrow.Author.Rules.{rules}
 use Rattle.entries.proofs.used_checked.Goals as goal
 
 pub returns : goal.returns
