@@ -14,7 +14,7 @@ pub returns-in-Refused : goal.returns-in-Refused
 returns-in-Refused c =
     let agreed : c.negotiate_block_size_if_necessary.result ≡ negotiated c.args.config (recorded_block c.args.state.recorded) c.args.numbers.bare (length c.args.payload.now) =
         rw c.recorded_block-recorded.ensures at c.negotiate_block_size_if_necessary.ensures in
-    returned _ _ _ _ c.refused.ensures ∙ sym (response-refused _ _ _ _ c.if-numbers.false _ agreed c.in-Refused.is)
+    returned _ _ _ _ c.refused.ensures ∙ sym (response-refused _ _ _ _ c.if-numbers.false _ agreed _ c.in-Refused.is)
 
 pub returns-in-NoBlock : goal.returns-in-NoBlock
 returns-in-NoBlock c =
@@ -26,4 +26,4 @@ pub returns-in-Block : goal.returns-in-Block
 returns-in-Block c =
     let agreed : c.negotiate_block_size_if_necessary.result ≡ negotiated c.args.config (recorded_block c.args.state.recorded) c.args.numbers.bare (length c.args.payload.now) =
         rw c.recorded_block-recorded.ensures at c.negotiate_block_size_if_necessary.ensures in
-    c.serve_response.ensures ∙ sym (response-chunk _ _ _ _ c.if-numbers.false _ agreed c.in-Block.is)
+    c.serve_response.ensures ∙ sym (response-chunk _ _ _ _ c.if-numbers.false _ agreed _ c.in-Block.is)
