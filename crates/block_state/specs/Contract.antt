@@ -12,7 +12,7 @@ asking q option1 option2 payload =
     record { bare = q.bare; block1 = option_of q.given1 option1; block2 = option_of q.given2 option2; payload = payload }
 
 abbrev pub replying : ResponseNumbers → List ℕ → List ℕ → Response
-replying q head payload = record { bare = q.bare; own_val = q.own; head = head; payload = payload }
+replying q head payload = record { bare = q.bare; own = q.own; head = head; payload = payload }
 
 -- The piece is of the configuration's size and holds what is assembled, and no place in a memory overflows.
 pub record Room (c : Config) (at_home at_away : ℕ) (s : BlockState) (n : ℕ) : Type 0 where

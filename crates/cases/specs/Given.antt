@@ -73,7 +73,7 @@ refused = call_on [] (sent 6 [] []) ∷ call_on (1 ∷ []) (sent 3 (0x08 ∷ [])
 
 -- The answer to what the first key's first push handed on.
 abbrev pub answering : List Call
-answering = record { time = 9; key = key_of_byte 1; what = response (record { bare = 36; own_val = false; head = []; payload = 79 ∷ 75 ∷ [] }) } ∷ []
+answering = record { time = 9; key = key_of_byte 1; what = response (record { bare = 36; own = false; head = []; payload = 79 ∷ 75 ∷ [] }) } ∷ []
 
 -- All first blocks; those two; all second blocks, the other way round; all last ones; that answer; all single ones.
 abbrev pub crossing : List Call
@@ -99,7 +99,7 @@ abbrev pub page : Page
 page = record { head = 7 ∷ []; payload = replicate 16 67 ++ (68 ∷ []) }
 
 abbrev pub storing : List Call
-storing = record { time = 5; key = key; what = response (record { bare = 36; own_val = false; head = page.head; payload = page.payload }) } ∷ []
+storing = record { time = 5; key = key; what = response (record { bare = 36; own = false; head = page.head; payload = page.payload }) } ∷ []
 
 abbrev pub asking : Call
 asking = record { time = 6; key = key; what = request (record { bare = 20; block1 = none; block2 = some (0x10 ∷ []); payload = [] }) }

@@ -20,7 +20,7 @@ abbrev pub asks : ℕ → ℕ → ℕ → Option (List ℕ) → Option (List ℕ
 asks time key bare block1 block2 n = record { time = time; key = key ∷ []; what = request (record { bare = bare; block1 = block1; block2 = block2; payload = replicate n 1 }) }
 
 abbrev pub sends : ℕ → ℕ → ℕ → ℕ → Call
-sends time key head n = record { time = time; key = key ∷ []; what = response (record { bare = 30; own_val = false; head = replicate head 1; payload = replicate n 1 }) }
+sends time key head n = record { time = time; key = key ∷ []; what = response (record { bare = 30; own = false; head = replicate head 1; payload = replicate n 1 }) }
 
 -- The figure that each call leaves.
 abbrev pub figures : Config → World → List Call → List ℕ

@@ -51,7 +51,7 @@ no_key = call_on [] (sent 7 (0x08 ∷ []) (replicate 16 90))
 
 abbrev pub answering : Call
 answering =
-    record { time = 8; key = 3 ∷ []; what = response (record { bare = 36; own_val = false; head = 7 ∷ []; payload = replicate 17 67 }) }
+    record { time = 8; key = 3 ∷ []; what = response (record { bare = 36; own = false; head = 7 ∷ []; payload = replicate 17 67 }) }
 
 abbrev pub out_of_order : Call
 out_of_order = call_on (2 ∷ []) (sent 8 (0x28 ∷ []) (replicate 16 91))

@@ -1,7 +1,6 @@
 use Rattle.digest.specs.Digest.{stirred}
-use Rattle.std.proofs.Common.{rules}
 use Rattle.digest.proofs.stir.Goals as goal
 
 pub returns : goal.returns
 unfolding stirred
-returns c = ?
+returns c = rw (c.wrapping_add_u64.ensures.value, c.turned.ensures)
