@@ -6,9 +6,7 @@ use lib.ListN.{length, get_or}
 use lib.Dec.{eqb}
 use Rattle.script_fields.specs.Fields.{is_mark}
 use borrow.Author.Tests.{eq-eqb, ne_eqb}
-use borrow.Author.Rules.{rules}
-use Rattle.script_fields.proofs.is_mark.Statement.{statement}
-use Rattle.script_fields.proofs.is_mark.Tie as tie
+use Rattle.script_fields.proofs.is_mark.Goals as goal
 
 -- a text of another length is no mark, and one byte is one if it is that byte
 none : (text : List ℕ) (mark : ℕ) → (length text ≡ 1 → ⊥) → false ≡ is_mark text mark
@@ -19,11 +17,8 @@ byte : (text : List ℕ) (mark : ℕ) → length text ≡ 1 → eqb (get_or text
 unfolding is_mark
 byte text mark one = rw (eq-eqb (length text) 1 one)
 
-returns : tie.Need-returns
-returns c = none _ _ c.if1.true
+pub returns-then-text-ne1 : goal.returns-then-text-ne1
+returns-then-text-ne1 c = none _ _ c.if-text-ne1.true
 
-returns-2 : tie.Need-returns-2
-returns-2 c = byte _ _ c.before.if1.false
-
-pub is-mark-spec : {M : Type 1} → statement M
-is-mark-spec = tie.close (tie.spec returns (λ c. search rules) returns-2)
+pub returns : goal.returns
+returns c = byte _ _ c.if-text-ne1.false
