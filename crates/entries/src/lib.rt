@@ -1,5 +1,6 @@
 // One entry of the table: its limits, its tag, whether two have one key, the bytes it holds, expiry, and how a key's entry starts.
 #![tactic(auto)]
+
 ghost use Rattle.std.specs.Prelude.{◌≡◌, true, false, ◌^◌, ◌<◌};
 ghost use Rattle.block_state.specs.State.{nothing};
 ghost use Rattle.keys.specs.Keys.{key_sized};

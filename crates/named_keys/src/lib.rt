@@ -1,5 +1,6 @@
 // The key that a call names, read once.
 #![tactic(auto)]
+
 ghost use Rattle.std.specs.Prelude.{◌≡◌, ◌≤◌, length, take};
 ghost use Rattle.keys.specs.Keys.{key_ok, stored, named_of};
 

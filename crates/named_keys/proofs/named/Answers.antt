@@ -2,7 +2,6 @@ use mathlib.Core.Path.{sym, ap, ◌∙◌}
 use Rattle.keys.specs.declared.Key.{Key}
 use Rattle.keys.specs.Keys.{key_of, tag_of, named_of}
 use Rattle.keys.proofs.Keys.{key-short, key-stored}
-use borrow.Author.Rules.{rules}
 use Rattle.named_keys.proofs.named.Goals as goal
 
 pub stored_key-k-requires : goal.stored_key-k-requires

@@ -1,8 +1,6 @@
 use mathlib.Core.Path.{◌≡◌, refl, ◌∙◌}
-use mathlib.Core.List.{◌++◌}
-use Prim.Native.Nat.{◌-◌, ◌≤◌}
 use native.Mathlib.Omega.{arith}
-use lib.ListN.{length, drop, take, replicate}
+use lib.ListN.{length, replicate}
 use lib.Seq.{take-length}
 use Rattle.keys.specs.Keys.{stored}
 use Rattle.keys.proofs.Turns.{pad-go, drop-zeros}

@@ -1,12 +1,7 @@
-use mathlib.Core.Path.{◌≡◌, refl, ◌∙◌}
+use mathlib.Core.Path.{◌≡◌}
 use mathlib.Core.List.{◌++◌}
 use Prim.Native.Nat.{◌-◌, ◌≤◌}
-use native.Mathlib.Omega.{arith}
 use lib.ListN.{length, drop, take, replicate}
-use lib.Seq.{take-length}
-use Rattle.keys.specs.Keys.{stored}
-use Rattle.keys.proofs.Turns.{pad-go, drop-zeros}
-use borrow.Author.Rules.{rules}
 use Rattle.named_keys.proofs.padded.Given as goal
 
 abbrev pub invariant-loop-i : goal.invariant-loop-i

@@ -1,5 +1,4 @@
 use Rattle.keys.specs.Keys.{stored}
-use borrow.Author.Rules.{rules}
 use Rattle.named_keys.proofs.stored_key.Goals as goal
 
 pub returns : goal.returns

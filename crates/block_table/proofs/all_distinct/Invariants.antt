@@ -1,0 +1,16 @@
+use mathlib.Core.Path.{◌≡◌, refl, sym, ◌∙◌}
+use Prim.Native.Nat.{◌-◌, ◌≤◌}
+use native.Mathlib.Omega.{arith}
+use lib.ListN.{length, drop}
+use borrow.Author.Tests.{not-true, not-false}
+use Rattle.block_table.specs.Table.{distinct}
+use Rattle.entries.proofs.Turns.{nil}
+use Rattle.block_table.proofs.Quick.{row-go, row-no, row-end}
+use borrow.Author.Rules.{rules}
+use Rattle.block_table.proofs.all_distinct.Given as goal
+
+abbrev pub invariant-loop-i : goal.invariant-loop-i
+invariant-loop-i l = (length l.entries ≡ 16) × ((l.i ≤ 16) × (distinct (drop l.i l.entries) ≡ distinct l.entries))
+
+abbrev pub decreases-loop-i : goal.decreases-loop-i
+decreases-loop-i l = 16 - l.i
