@@ -1,0 +1,17 @@
+use mathlib.Core.Path.{refl}
+use Rattle.judge.specs.Limits.{config_ok}
+use borrow.Author.Rules.{rules}
+use Rattle.judge.proofs.config_ok.Goals as goal
+
+pub returns : goal.returns
+unfolding config_ok
+returns c =
+    rw (
+      c.between.ensures,
+      c.between-2.ensures,
+      c.between-3.ensures,
+      c.between-4.ensures,
+      c.u64_of_usize.ensures,
+      c.u64_of_usize-2.ensures,
+      c.u64_of_usize-3.ensures,
+    ) refl

@@ -1,0 +1,6 @@
+use mathlib.Core.Path.{◌∙◌}
+use borrow.Author.Rules.{rules}
+use Rattle.table_change.proofs.opened_entry.Goals as goal
+
+pub returns : goal.returns
+returns c = c.start_from.ensures ∙ rw c.swept_entry.ensures
