@@ -1,5 +1,6 @@
 // A script of calls on standard input, its first 8 KiB; an answer a line on standard output.
 #![tactic(auto)]
+
 ghost use Rattle.std.specs.Prelude.{◌≡◌, ◌≤◌, take};
 ghost use Rattle.buffers.specs.Sizes.{output_size};
 ghost use Rattle.script_state.specs.Start.{begun};
@@ -35,13 +36,14 @@ fn run_script(
     )
 }
 
-fn main() {
+fn main(rt: HostRuntime) {
+    let mut input = rt.stdin();
     let mut text = [0u8; 8192];
     let mut upload = buffers::memory();
     let mut response = buffers::memory();
     let mut scratch = buffers::scratch();
     let mut out = buffers::output();
-    let took = line_input::read_full(&mut text);
+    let took = line_input::read_full(&mut input, &mut text);
     let end = took.end;
     let last = run_script(
         &text[..end],

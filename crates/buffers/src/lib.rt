@@ -1,5 +1,6 @@
 // The buffers that a program lends, each all zeros. Lending one as a slice needs its length.
 #![tactic(auto)]
+
 ghost use Rattle.std.specs.Prelude.{◌≡◌, ◌≤◌, length, replicate};
 ghost use Rattle.buffers.specs.Sizes.{scratch_size, memory_size, output_size, memory_of};
 

@@ -1,12 +1,14 @@
 // CoAP messages in hex on standard input, one a line and any number of them: the parts of each, a line on standard output. Why a line is
 // unreadable goes to standard error.
 #![tactic(auto)]
+
 ghost use Rattle.std.specs.Prelude.{◌≡◌, ◌+◌, ◌%◌, ◌^◌, ◌<◌, true, not, [], ◌∷◌, length, if◌then◌else◌};
 ghost use Rattle.line_input.specs.Sizes.{text_size};
 ghost use Rattle.hex_line.specs.Line.{hex_of, is_unread};
 ghost use Rattle.coapdump.specs.Lines.{Room, Says, unread_in, Ended};
 
 use ending::Ending;
+use std::io::Read;
 
 // Whether a line was unreadable, and whether what it says was written.
 #[derive(Clone, Copy)]
@@ -145,7 +147,13 @@ fn print_last(
     }
 }
 
-fn run(text: &mut [u8], digits: &mut [u8], bytes: &mut [u8], out: &mut [u8]) -> Ending
+fn run<R: Read>(
+    input: &mut R,
+    text: &mut [u8],
+    digits: &mut [u8],
+    bytes: &mut [u8],
+    out: &mut [u8],
+) -> Ending
     requires text_len { length text.old ≡ text_size }
     requires room { Room digits.old bytes.old out.old }
 {
@@ -159,7 +167,7 @@ fn run(text: &mut [u8], digits: &mut [u8], bytes: &mut [u8], out: &mut [u8]) -> 
         return stopped(rest, false);
     }
     let mut held = 0;
-    let mut took = line_input::read_on(text, 0);
+    let mut took = line_input::read_on(input, text, 0);
     let mut turns = line_input::turns_left(u64::MAX, 0, took.end);
     while turns > 0 {
         let end = took.end;
@@ -168,18 +176,19 @@ fn run(text: &mut [u8], digits: &mut [u8], bytes: &mut [u8], out: &mut [u8]) -> 
             return stopped(rest, false);
         }
         held = line_input::keep(text, rest.from, end);
-        took = line_input::read_on(text, held);
+        took = line_input::read_on(input, text, held);
         turns = line_input::turns_left(turns, held, took.end);
     }
     let left = line_input::left_over(held, took);
     print_last(rest, took.failed, &text[0..left], digits, bytes, out)
 }
 
-fn main() {
+fn main(rt: HostRuntime) {
+    let mut input = rt.stdin();
     let mut text = line_input::text();
     let mut digits = digits_buffer();
     let mut bytes = bytes_buffer();
     let mut out = output_buffer();
-    let ended = run(&mut text, &mut digits, &mut bytes, &mut out);
+    let ended = run(&mut input, &mut text, &mut digits, &mut bytes, &mut out);
     ending::end(b"coapdump", ended);
 }

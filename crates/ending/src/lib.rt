@@ -1,6 +1,7 @@
 // How a program ends: what it says of it on standard error, and the exit code that it reports. A program has no exit code of its own: it writes it to
 // descriptor 3, and who opened that makes the code of it.
 #![tactic(auto)]
+
 ghost use Rattle.std.specs.Prelude.{◌≡◌, ◌+◌, ◌*◌, ◌≤◌, length};
 ghost use Rattle.pieces.specs.Memory.{Put};
 ghost use Rattle.ending.specs.Ending.{exit_code, sentence, unread_text, ending_text, report_text};

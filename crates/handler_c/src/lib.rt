@@ -1,5 +1,6 @@
-// The handler for programs in C and Rust: its calls on a table and memories that the caller owns, with answers as numbers.
+// The handler for programs in C and Rust, which `handler_c_exports` exports: its calls on a table and memories that the caller owns, with answers as numbers.
 #![tactic(auto)]
+
 ghost use Rattle.std.specs.Prelude.{◌≡◌};
 ghost use Rattle.block_option.specs.Option.{read_of, written, in_three};
 ghost use Rattle.block_table.specs.Table.{fresh_table};
@@ -16,35 +17,27 @@ use config::Config;
 use negotiation::MaybeBlock;
 use replies::{Found, Reply};
 
-#[unsafe(no_mangle)]
-pub extern "C" fn block_handler_default_config(
-    strict: bool,
-    upload: usize,
-    response: usize,
-) -> Config
+pub fn block_handler_default_config(strict: bool, upload: usize, response: usize) -> Config
     ensures { result ≡ record { strict = strict; limit = 1152; lifetime = 120000; upload = upload; response = response } }
 {
     config::default_config(strict, upload, response)
 }
 
-#[unsafe(no_mangle)]
-pub extern "C" fn block_handler_fresh() -> Table
+pub fn block_handler_fresh() -> Table
     ensures { result ≡ fresh_table }
 {
     block_table::fresh()
 }
 
 // The bytes that the entries in use hold, as the table's figure says: one load.
-#[unsafe(no_mangle)]
-pub extern "C" fn block_handler_bytes_held(table: &Table) -> u64
+pub fn block_handler_bytes_held(table: &Table) -> u64
     ensures { result ≡ table.now.held }
 {
     table.held
 }
 
 // An option's bytes as a block value; one that cannot be read counts as absent.
-#[unsafe(no_mangle)]
-pub extern "C" fn block_handler_read(strict: bool, option: &[u8]) -> Recorded
+pub fn block_handler_read(strict: bool, option: &[u8]) -> Recorded
     ensures { result ≡ block_read (read_of strict option.now) }
 {
     let Reading::Value(block) = block_option::read(strict, option) else {
@@ -53,8 +46,7 @@ pub extern "C" fn block_handler_read(strict: bool, option: &[u8]) -> Recorded
     state::recording_of(MaybeBlock::Given(block))
 }
 
-#[unsafe(no_mangle)]
-pub extern "C" fn block_handler_write(strict: bool, num: u32, more: bool, exponent: u8) -> Written
+pub fn block_handler_write(strict: bool, num: u32, more: bool, exponent: u8) -> Written
     ensures { result ≡ in_three (written strict (record { num = num; more = more; size_exponent = exponent })) }
 {
     let block = BlockValue {
@@ -66,39 +58,34 @@ pub extern "C" fn block_handler_write(strict: bool, num: u32, more: bool, expone
 }
 
 // The body that the application sees, of a payload and an upload memory of these lengths.
-#[unsafe(no_mangle)]
-pub extern "C" fn block_handler_body(reply: Reply, payload: usize, upload: usize) -> Found
+pub fn block_handler_body(reply: Reply, payload: usize, upload: usize) -> Found
     ensures { result ≡ found_in (body_in reply) payload upload }
 {
     replies::found_in(replies::body_in(reply), payload, upload)
 }
 
 // The head that a served chunk goes out under, of a response memory of this length.
-#[unsafe(no_mangle)]
-pub extern "C" fn block_handler_served_head(reply: Reply, response: usize) -> Found
+pub fn block_handler_served_head(reply: Reply, response: usize) -> Found
     ensures { result ≡ found_in (served_head_in reply) response response }
 {
     replies::found_in(replies::served_head_in(reply), response, response)
 }
 
-#[unsafe(no_mangle)]
-pub extern "C" fn block_handler_served_chunk(reply: Reply, response: usize) -> Found
+pub fn block_handler_served_chunk(reply: Reply, response: usize) -> Found
     ensures { result ≡ found_in (chunk_in reply) response response }
 {
     replies::found_in(replies::chunk_in(reply), response, response)
 }
 
 // What a response sends of its own payload, which has this length.
-#[unsafe(no_mangle)]
-pub extern "C" fn block_handler_sent(reply: Reply, payload: usize) -> Found
+pub fn block_handler_sent(reply: Reply, payload: usize) -> Found
     ensures { result ≡ found_in (sent_in reply) payload payload }
 {
     replies::found_in(replies::sent_in(reply), payload, payload)
 }
 
 // A request, before the application sees it: intercept_request in the Rust.
-#[unsafe(no_mangle)]
-pub extern "C" fn block_handler_request<'a>(
+pub fn block_handler_request<'a>(
     table: &mut Table,
     config: Config,
     upload: &mut [u8],
@@ -131,8 +118,7 @@ pub extern "C" fn block_handler_request<'a>(
 }
 
 // A response, before it is sent: intercept_response in the Rust.
-#[unsafe(no_mangle)]
-pub extern "C" fn block_handler_response<'a>(
+pub fn block_handler_response<'a>(
     table: &mut Table,
     config: Config,
     upload: &'a [u8],

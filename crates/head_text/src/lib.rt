@@ -1,5 +1,6 @@
 // The first fields of a message's line. A function that puts one into a lent buffer at an index answers the next index.
 #![tactic(auto)]
+
 ghost use Rattle.std.specs.Prelude.{◌≡◌, [], ◌∷◌, ◌++◌, ◌+◌, ◌≤◌, length};
 ghost use Rattle.pieces.specs.Memory.{Put};
 ghost use Rattle.head_text.specs.Head.{type_text, code_text, head_text};

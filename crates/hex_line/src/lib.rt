@@ -1,5 +1,6 @@
 // What a line of hex says. Blanks at its ends are no part of it, and its digits are of either case.
 #![tactic(auto)]
+
 ghost use Rattle.std.specs.Prelude.{◌≡◌, map, ◌+◌, ◌≤◌, length};
 ghost use Rattle.pieces.specs.Memory.{patch};
 ghost use Rattle.line_input.specs.Sizes.{longest};

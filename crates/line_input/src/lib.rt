@@ -1,10 +1,13 @@
 // The lines of standard input, of any length: read on, with the text that has not ended kept; and output that is written.
 #![tactic(auto)]
+
 ghost use Rattle.std.specs.Prelude.{◌≡◌, true, cond, ◌+◌, ◌-◌, ◌^◌, ◌≤◌, ◌<◌, min, eqb, length, take, replicate, pos};
 ghost use Rattle.std.specs.Int.Signed.{lt_z};
 ghost use Rattle.io.specs.Counts.{IsPrefixLen, clamp_len};
 ghost use Rattle.pieces.specs.Memory.{patch, part};
 ghost use Rattle.line_input.specs.Sizes.{longest, text_size};
+
+use std::io::Read;
 
 // The longest line that any program reads.
 pub const LONGEST: usize = 200000;
@@ -43,25 +46,28 @@ fn taken(held: usize, got: isize, room: &[u8]) -> Took
 }
 
 // Reads on behind the bytes that are held, which stay. Where the text ends with them, the input has ended, the read failed, or there is no room.
-pub fn read_on(text: &mut [u8], held: usize) -> Took
+pub fn read_on<R: Read>(input: &mut R, text: &mut [u8], held: usize) -> Took
     requires { held ≤ length text.old }
     ensures held_le_end { (held ≤ result.end) × (result.end ≤ length text.old) }
     ensures text_unchanged { take held text.new ≡ take held text.old }
 {
-    let got = libc::read(0, &mut text[held..]);
+    let got = match input.read(&mut text[held..]) {
+        Ok(n) => n as isize,
+        Err(_) => -1,
+    };
     taken(held, got, &text[held..])
 }
 
 // Reads until the text is full or the input has ended; where a read fails, nothing counts as read.
-pub fn read_full(text: &mut [u8]) -> Took
+pub fn read_full<R: Read>(input: &mut R, text: &mut [u8]) -> Took
     ensures prefix_len { IsPrefixLen result.end text.new }
     ensures end_value { result.failed ≡ true → result.end ≡ 0 }
 {
     let mut held = 0;
-    let mut last = read_on(text, 0);
+    let mut last = read_on(input, text, 0);
     while held < last.end {
         held = last.end;
-        last = read_on(text, held);
+        last = read_on(input, text, held);
     }
     if last.failed {
         return Took {

@@ -1,6 +1,7 @@
 // CoAP messages (RFC 7252), read where they stand: parts of the message, never copies. `from_bytes` judges the whole message before it shows any
 // part. The other functions are for a message that it took, and say the same of any bytes.
 #![tactic(auto)]
+
 ghost use Rattle.std.specs.Prelude.{◌≡◌, ◌+◌, ◌-◌, ◌*◌, ◌≤◌, ◌<◌, length};
 ghost use Rattle.pieces.specs.Memory.{within};
 ghost use Rattle.message_format.specs.Format.{head_ok};

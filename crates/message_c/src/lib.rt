@@ -1,5 +1,6 @@
 // The reader, the writer and the table of options for programs in C and Rust: on bytes that the caller owns, with answers as numbers.
 #![tactic(auto)]
+
 ghost use Rattle.std.specs.Prelude.{◌≡◌};
 ghost use Rattle.one_option.specs.Index.{next_at};
 ghost use Rattle.option_reader.specs.Reader.{found_from};

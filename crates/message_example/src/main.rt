@@ -1,5 +1,6 @@
 // A message that brings a price list: its path and its payload, shown where they stand.
 #![tactic(auto)]
+
 use message::{Found, Reading};
 
 fn main() {

@@ -3,6 +3,7 @@
 // What stands where an option may begin: an option and where its value stands, the end of the options, or neither. Places count from where the
 // bytes begin that were handed over.
 #![tactic(auto)]
+
 #[derive(Clone, Copy)]
 pub enum Next {
     Option { number: u16, from: usize, to: usize },

@@ -1,5 +1,6 @@
 // Whether a message is taken, before a byte of it is written.
 #![tactic(auto)]
+
 ghost use Rattle.std.specs.Prelude.{◌≡◌, cond, true, ℕ, ◌+◌, ◌≤◌, leb, eqb, length};
 ghost use Rattle.message_format.specs.Format.{extension, payload_bytes};
 ghost use Rattle.message_measure.specs.Given.{given, takes};

@@ -1,5 +1,6 @@
 // Messages at the edges: written, and read again. What is printed is compared with stdout.
 #![tactic(auto)]
+
 ghost use Rattle.std.specs.Prelude.{◌≤◌, length};
 
 use message::Reading;

@@ -1,5 +1,6 @@
 // CoAP messages (RFC 7252), written into a lent buffer: measured before the first byte, so a refused one leaves it untouched.
 #![tactic(auto)]
+
 mod put;
 
 ghost use Rattle.message_measure.specs.Given.{given};

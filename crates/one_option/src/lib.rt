@@ -1,5 +1,6 @@
 // One option of a message, read where it stands.
 #![tactic(auto)]
+
 ghost use Rattle.std.specs.Prelude.{◌≡◌, ◌+◌, ◌≤◌, ◌<◌, length, drop};
 ghost use Rattle.message_format.specs.Format.{extras, extended, option_in, next_in};
 ghost use Rattle.one_option.specs.Index.{next_at};

@@ -1,5 +1,6 @@
 // The options of a message, taken one by one.
 #![tactic(auto)]
+
 ghost use Rattle.std.specs.Prelude.{◌≡◌, cond, ◌&&◌, eqb, ◌-◌, ◌≤◌, length, drop};
 ghost use Rattle.message_format.specs.Format.{options_of};
 ghost use Rattle.option_reader.specs.Reader.{RunOf, ends_of, found_from};

@@ -1,5 +1,6 @@
 // Options at the edges: cut, found by number, asked of the table of lengths, and a great many. What is printed is compared with stdout.
 #![tactic(auto)]
+
 use message::{Found, Reading};
 use option_table::Length;
 

@@ -1,5 +1,6 @@
 // The CoAP options that RFC 7252, RFC 7641 and RFC 7959 register, and the lengths that a value may have.
 #![tactic(auto)]
+
 ghost use Rattle.std.specs.Prelude.{◌≡◌};
 ghost use Rattle.option_table.specs.Options.{table, columns_of, limited, allowed_of};
 

@@ -1,5 +1,6 @@
 // The parts of a message that was read, as text: found where they stand in it and never copied.
 #![tactic(auto)]
+
 mod options;
 
 ghost use Rattle.std.specs.Prelude.{◌≡◌, [], ◌∷◌, ◌++◌, ◌+◌, ◌*◌, ◌≤◌, length};

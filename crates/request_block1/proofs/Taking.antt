@@ -83,7 +83,7 @@ module _ (c : Config) (a : Assembled) (u : List ℕ) (b : BlockValue) (payload :
           let is = taken_is _ _ _ _ _ _ e in
           let long : length (piece_after u l (block_start b) (block_size b) payload) ≡ c.upload =
           length-after u l (block_start b) (block_size b) payload (omega (arith, met-most)) (omega arith) ∙ size in
-          elim more [
+          elim more as (λ m. Holds (taken_as m (splice.Body n))) [
             | true ↦ (is.1, long)
             | false ↦ (is.1, long)
           ]

@@ -1,5 +1,5 @@
 -- The grammar of a script line: `Q now key bare block1 block2 payload` or `P now key bare own head payload`.
-use Rattle.std.specs.Prelude.{ℕ, ◌+◌, ◌*◌, ◌≤◌, ◌≡◌, Bool, true, false, cond, ◌&&◌, List, [], ◌∷◌, eqb, ltb, leb, length, get_or, take, drop}
+use Rattle.std.specs.Prelude.{ℕ, ◌+◌, ◌*◌, ◌≤◌, ◌≡◌, Bool, true, false, cond, ◌&&◌, List, eqb, ltb, leb, length, get_or, take, drop}
 use Rattle.script_cut.specs.Cut.{Bytes, fields, at, between}
 use Rattle.script_fields.specs.Fields.{is_number, value, is_bytes, bytes_of, is_option, is_given, option_bytes}
 use Rattle.script.specs.declared.Call.{Call}

@@ -1,5 +1,6 @@
 // A line of a script, over lent slices: what its six fields say.
 #![tactic(auto)]
+
 mod read;
 
 pub use read::read_line;

@@ -1,5 +1,6 @@
 // A line cut at a mark, and into six fields with a space between each two.
 #![tactic(auto)]
+
 ghost use Rattle.std.specs.Prelude.{◌≡◌, ◌≤◌, ◌<◌, length};
 ghost use Rattle.script_cut.specs.Cut.{UpTo, Next, Fields, Parts, field_of};
 

@@ -1,5 +1,6 @@
 // The fields of a line: decimals, bytes in hex, and block options.
 #![tactic(auto)]
+
 ghost use Rattle.std.specs.Prelude.{◌≡◌, ◌+◌, ◌*◌, ◌≤◌, length};
 ghost use Rattle.script_fields.specs.Fields.{is_digit, number_of, nibble, is_mark, pairs_decoded, pairs_of, is_bytes, bytes_of, is_given, is_option, option_bytes, Filled, Reads};
 

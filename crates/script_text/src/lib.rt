@@ -1,5 +1,6 @@
 // Text put into a lent buffer at an index; each answers the next index.
 #![tactic(auto)]
+
 ghost use Rattle.std.specs.Prelude.{◌≡◌, ◌+◌, ◌*◌, ◌%◌, ◌<◌, ◌≤◌, length};
 ghost use Rattle.pieces.specs.Memory.{Put};
 ghost use Rattle.script_text.specs.Text.{decimal, hex_digit, hex, shown, block_text, maybe_text, digit_of};

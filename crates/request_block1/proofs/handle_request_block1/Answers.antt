@@ -25,10 +25,4 @@ returns c =
     let same : c.extending_splice.result ≡ splice_of c.args.config.upload l (block_start c.args.block) (block_size c.args.block) (length c.args.payload.now) =
     rw (← c.requires.0, ← c.length_met-len.ensures.0, ← c.start-start.ensures.0, ← c.size-size.ensures) c.extending_splice.ensures.value in
     let told = c.taken_as.ensures in
-    record { value = ((
-      told ∙ ap (taken_as c.args.block.more) same ∙ sym (taken_next _ _ _ _ good follows),
-      rw (told, piece-as _ _ _ _ _ _ _, ← c.length_met-len.ensures.0, ← c.start-start.ensures.0, ← c.size-size.ensures) c.extending_splice.ensures.piece_after,
-    )).0; piece_after = ((
-      told ∙ ap (taken_as c.args.block.more) same ∙ sym (taken_next _ _ _ _ good follows),
-      rw (told, piece-as _ _ _ _ _ _ _, ← c.length_met-len.ensures.0, ← c.start-start.ensures.0, ← c.size-size.ensures) c.extending_splice.ensures.piece_after,
-    )).1 }
+    record { value = told ∙ ap (taken_as c.args.block.more) same ∙ sym (taken_next _ _ _ _ good follows); piece_after = rw (told, piece-as _ _ _ _ _ _ _, ← c.length_met-len.ensures.0, ← c.start-start.ensures.0, ← c.size-size.ensures) c.extending_splice.ensures.piece_after }
