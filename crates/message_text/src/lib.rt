@@ -1,5 +1,6 @@
 // The line of a message, and what is said of a line of hex.
 #![tactic(auto)]
+
 ghost use Rattle.std.specs.Prelude.{◌≡◌, ◌++◌, ◌+◌, ◌*◌, ◌≤◌, length};
 ghost use Rattle.pieces.specs.Memory.{Put};
 ghost use Rattle.message_format.specs.Format.{meaning_of};
