@@ -1,5 +1,6 @@
 // Where the bytes that an answer shows stand, and its response code.
 #![tactic(auto)]
+
 ghost use Rattle.std.specs.Prelude.{◌≡◌};
 ghost use Rattle.apart.specs.Answers.{said};
 

@@ -1,5 +1,6 @@
 // The line of an answer: number, answer, Block1, Block2, and the body or chunk.
 #![tactic(auto)]
+
 ghost use Rattle.std.specs.Prelude.{◌≡◌, ◌+◌, ◌*◌, ◌≤◌, length};
 ghost use Rattle.pieces.specs.Memory.{Put};
 ghost use Rattle.answer_text.specs.Answer.{name_text, bytes_text, blocks_text, answer_text, unreadable_text};

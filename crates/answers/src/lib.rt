@@ -1,5 +1,6 @@
 // The bytes that an answer shows, lent and never copied: empty where the answer has none, or names a part that isn't there. `response_code` is passed on.
 #![tactic(auto)]
+
 ghost use Rattle.std.specs.Prelude.{◌≡◌};
 ghost use Rattle.answer_sources.specs.Parts.{bytes_of, body_of, served_head, served_chunk, sent_bytes};
 

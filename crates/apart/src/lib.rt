@@ -1,5 +1,6 @@
 // An answer taken apart, here alone.
 #![tactic(auto)]
+
 ghost use Rattle.std.specs.Prelude.{◌≡◌};
 ghost use Rattle.apart.specs.Answers.{kind_number, nowhere, of_its_own, refusal_code, said, saying};
 

@@ -1,5 +1,6 @@
 // Unsigned numbers in a fixed number of bytes, big-endian: written to a lent memory, and read from one.
 #![tactic(auto)]
+
 ghost use Rattle.std.specs.Prelude.{◌≡◌, ◌+◌, ◌^◌, ◌<◌, ◌≤◌, length};
 ghost use Rattle.pieces.specs.Memory.{Put};
 ghost use Rattle.big_endian.specs.Numbers.{in_bytes, number_at};

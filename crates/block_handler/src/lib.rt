@@ -1,5 +1,6 @@
 // The block handler's calls: on a table by value and two lent memories, for any bytes and numbers.
 #![tactic(auto)]
+
 ghost use Rattle.std.specs.Prelude.{◌≡◌};
 ghost use Rattle.table_change.specs.Change.{changed};
 ghost use Rattle.call.specs.Contract.{world, request_call, response_call, Meant};

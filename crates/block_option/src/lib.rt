@@ -1,5 +1,6 @@
 // The bytes of a Block1 or Block2 option: read, write. Both take the mode, which says how many bytes an option may have.
 #![tactic(auto)]
+
 ghost use Rattle.std.specs.Prelude.{◌≡◌, ◌%◌, ◌^◌, ◌<◌, ◌≤◌, length};
 ghost use Rattle.config.specs.Mode.{nums};
 ghost use Rattle.block_option.specs.Uint.{uint};

@@ -1,5 +1,6 @@
 // One key's state by value, and what a call's step on it answers.
 #![tactic(auto)]
+
 use block_value::BlockValue;
 use negotiation::MaybeBlock;
 

@@ -1,5 +1,6 @@
 // The table of sixteen entries, its clock and the bytes that they hold: whether no two have one key, expiry, and an entry put in its place.
 #![tactic(auto)]
+
 ghost use Rattle.std.specs.Prelude.{◌≡◌, length, drop};
 ghost use Rattle.entries.specs.Entries.{sweep};
 ghost use Rattle.block_table.specs.Table.{distinct, fresh_table};

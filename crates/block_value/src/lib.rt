@@ -1,5 +1,6 @@
 // The block value of a Block1 or Block2 option: make, size, start. Its bytes are in `block_option`.
 #![tactic(auto)]
+
 ghost use Rattle.std.specs.Prelude.{◌≡◌, ◌*◌, ◌^◌, ◌<◌, ◌≤◌};
 ghost use Rattle.block_value.specs.Value.{largest_power, made, block_size, block_start};
 

@@ -168,7 +168,7 @@ module _ (c : Config) (w : World) (q : Call) (f : WorldFits c w) where
         let stays : at row i ≡ at w.table.entries i = row-live c w.table q.time f.table f.sixteen i lives in
         let away : i ≢ here = elsewhere q.key row row-16 k other i (rw stays held) in
         let ne : here ≡ i → ⊥ = λ e. away (sym e) in λ x.
-        elim x [
+        elim x as (λ y. WhatBytes y → what_ok y ≡ true → Undisturbed c w (call_at c w q.time row here entry y).world i) [
           | request r ↦ λ b ok. record {
             entry = at_set_other row here _ in_row i away ∙ stays;
             upload = piece-put-other c.upload w.upload here in-upload _ (request-leaves r b).piece i ne;

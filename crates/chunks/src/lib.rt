@@ -1,5 +1,6 @@
 // The bounds of a chunk.
 #![tactic(auto)]
+
 ghost use Rattle.std.specs.Prelude.{◌≡◌};
 ghost use Rattle.chunks.specs.Chunk.{chunk_of};
 

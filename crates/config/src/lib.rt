@@ -1,5 +1,6 @@
 // The configuration, at the bottom, and the numbers that are a mode's.
 #![tactic(auto)]
+
 ghost use Rattle.std.specs.Prelude.{◌≡◌, ◌^◌, ◌<◌, ◌≤◌};
 ghost use Rattle.config.specs.Mode.{byte_limit, num_limit, nums};
 

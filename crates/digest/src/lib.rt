@@ -1,5 +1,6 @@
 // A number that equal keys have in common.
 #![tactic(auto)]
+
 ghost use Rattle.std.specs.Prelude.{◌≡◌, ◌+◌, ◌%◌, ◌^◌, ◌<◌, ◌≤◌, take};
 ghost use Rattle.digest.specs.Digest.{Read, turn, stirred, stirs, digest_of};
 

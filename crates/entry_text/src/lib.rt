@@ -1,5 +1,6 @@
 // One entry in use as the line of the state has it: INDEX,KEY,TOUCHED,ASSEMBLED,KEPT,CACHE,RECORDED.
 #![tactic(auto)]
+
 ghost use Rattle.std.specs.Prelude.{◌+◌, ◌≤◌, length, take};
 ghost use Rattle.pieces.specs.Memory.{Put};
 ghost use Rattle.script_text.specs.Text.{hex};

@@ -1,5 +1,6 @@
 // A lane takes a price list of one block, and shows it.
 #![tactic(auto)]
+
 use block_state::RequestNumbers;
 
 fn main() {

@@ -1,5 +1,6 @@
 // Whether an entry that was touched at a time is live still.
 #![tactic(auto)]
+
 ghost use Rattle.std.specs.Prelude.{◌≡◌, ◌-◌};
 ghost use Rattle.expiry.specs.Expiry.{live_by};
 

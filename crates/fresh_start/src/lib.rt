@@ -1,5 +1,6 @@
 // A fresh start of a replay, and what any line leaves of what is lent to it.
 #![tactic(auto)]
+
 ghost use Rattle.std.specs.Prelude.{◌+◌, ◌≤◌, length};
 ghost use Rattle.buffers.specs.Sizes.{memory_size, line_room};
 ghost use Rattle.fresh_start.specs.Leaves.{fresh_in, Left};

@@ -1,5 +1,6 @@
 // The bytes at the start of a memory's sixteen pieces: gathered one after another, and scattered to the pieces again.
 #![tactic(auto)]
+
 ghost use Rattle.std.specs.Prelude.{◌≡◌, true, ◌+◌, ◌*◌, ◌≤◌, length, drop};
 ghost use Rattle.pieces.specs.Memory.{Put};
 ghost use Rattle.gathering.specs.Gather.{sum, Short, gathered, scattered};

@@ -1,5 +1,6 @@
 // The handler for programs in C and Rust, which `handler_c_exports` exports: its calls on a table and memories that the caller owns, with answers as numbers.
 #![tactic(auto)]
+
 ghost use Rattle.std.specs.Prelude.{◌≡◌};
 ghost use Rattle.block_option.specs.Option.{read_of, written, in_three};
 ghost use Rattle.block_table.specs.Table.{fresh_table};
@@ -16,11 +17,7 @@ use config::Config;
 use negotiation::MaybeBlock;
 use replies::{Found, Reply};
 
-pub fn block_handler_default_config(
-    strict: bool,
-    upload: usize,
-    response: usize,
-) -> Config
+pub fn block_handler_default_config(strict: bool, upload: usize, response: usize) -> Config
     ensures { result ≡ record { strict = strict; limit = 1152; lifetime = 120000; upload = upload; response = response } }
 {
     config::default_config(strict, upload, response)

@@ -1,5 +1,6 @@
 // The functions of `handler_c` under the names and by the calling convention that programs in C and Rust call them by: each does what the one behind it does.
 #![tactic(auto)]
+
 ghost use Rattle.std.specs.Prelude.{◌≡◌};
 ghost use Rattle.block_option.specs.Option.{read_of, written, in_three};
 ghost use Rattle.block_table.specs.Table.{fresh_table};
@@ -106,7 +107,9 @@ pub extern "C" fn block_handler_request<'a>(
         (request_call (record { time = time; bare = bare; given1 = given1; given2 = given2 }) key.now block1.now block2.now payload.now)
         (world table.new upload.new response.now) result }
 {
-    handler_c::block_handler_request(table, config, upload, response, time, key, bare, given1, block1, given2, block2, payload)
+    handler_c::block_handler_request(
+        table, config, upload, response, time, key, bare, given1, block1, given2, block2, payload,
+    )
 }
 
 // A response, before it is sent: intercept_response in the Rust.
@@ -127,5 +130,7 @@ pub extern "C" fn block_handler_response<'a>(
         (response_call (record { time = time; bare = bare; own = own }) key.now head.now payload.now)
         (world table.new upload.now response.new) result }
 {
-    handler_c::block_handler_response(table, config, upload, response, time, key, bare, own, head, payload)
+    handler_c::block_handler_response(
+        table, config, upload, response, time, key, bare, own, head, payload,
+    )
 }

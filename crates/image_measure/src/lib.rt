@@ -1,5 +1,6 @@
 // How much an image of sixteen entries holds, and where its parts start.
 #![tactic(auto)]
+
 ghost use Rattle.std.specs.Prelude.{◌≡◌, cond, ◌+◌, ◌^◌, ◌<◌, ◌≤◌, length};
 ghost use Rattle.pieces.specs.Memory.{Put};
 ghost use Rattle.big_endian.specs.Numbers.{in_bytes};

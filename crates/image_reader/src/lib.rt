@@ -1,5 +1,6 @@
 // Loading an image into a fresh table: judged first, as a whole, before a byte is written.
 #![tactic(auto)]
+
 ghost use Rattle.std.specs.Prelude.{◌≡◌, true, false, ◌&&◌, ◌+◌, ◌*◌, ◌^◌, ◌<◌, ◌≤◌, length, take, drop, eqb};
 ghost use Rattle.pieces.specs.Memory.{part};
 ghost use Rattle.big_endian.specs.Numbers.{number_at};

@@ -1,5 +1,6 @@
 // The rows of an image: written, compared and read.
 #![tactic(auto)]
+
 ghost use Rattle.std.specs.Prelude.{◌≡◌, cond, [], ◌+◌, ◌*◌, ◌<◌, ◌≤◌, length, drop, replicate};
 ghost use Rattle.pieces.specs.Memory.{part, Put};
 ghost use Rattle.keys.specs.Keys.{same};

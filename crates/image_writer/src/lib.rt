@@ -1,5 +1,6 @@
 // Saving the live entries of a table, with their bytes, as an image.
 #![tactic(auto)]
+
 ghost use Rattle.std.specs.Prelude.{◌≡◌, length};
 ghost use Rattle.pieces.specs.Memory.{patch};
 ghost use Rattle.call.specs.Contract.{world};

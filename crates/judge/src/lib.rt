@@ -1,5 +1,6 @@
 // The checks 1, 2 and 3 before a step, and the key's place.
 #![tactic(auto)]
+
 ghost use Rattle.std.specs.Prelude.{◌≡◌, ◌&&◌, ◌≤◌};
 ghost use Rattle.judge.specs.Limits.{between, config_ok, memories_ok};
 ghost use Rattle.judge.specs.Verdict.{message_ok, verdict_at, verdict_by};

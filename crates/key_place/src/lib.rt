@@ -1,5 +1,6 @@
 // Whether an entry is live and holds a key, and the key's place in a row, found byte by byte before the row is swept.
 #![tactic(auto)]
+
 ghost use Rattle.std.specs.Prelude.{◌≡◌};
 ghost use Rattle.keys.specs.Lists.{find};
 ghost use Rattle.keys.specs.Keys.{key_of};

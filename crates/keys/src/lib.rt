@@ -1,6 +1,7 @@
 // A stored key: its limits, its bytes, its tag, and when two are the same; and the form of a named one, which `named_keys` makes. Only these two crates and the text of
 // the state look inside a `Key`.
 #![tactic(auto)]
+
 ghost use Rattle.std.specs.Prelude.{◌≡◌, true, ◌+◌, ◌≤◌, length, take, eqb};
 ghost use Rattle.pieces.specs.Memory.{Put};
 ghost use Rattle.keys.specs.Lists.{all};

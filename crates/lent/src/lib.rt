@@ -1,5 +1,6 @@
 // The lent forms of document 01: one key's entry by `&mut`, and the table's entries as a lent row.
 #![tactic(auto)]
+
 ghost use Rattle.std.specs.Prelude.{◌≡◌};
 ghost use Rattle.block_state.specs.Contract.{asking, replying};
 ghost use Rattle.entries.specs.Entries.{holds, sweep};

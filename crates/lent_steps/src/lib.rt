@@ -1,5 +1,6 @@
 // A call's step on an entry by value, with the answer in numbers.
 #![tactic(auto)]
+
 ghost use Rattle.std.specs.Prelude.{◌≡◌};
 ghost use Rattle.block_state.specs.Contract.{asking, replying};
 ghost use Rattle.entries.specs.Entries.{in_use};

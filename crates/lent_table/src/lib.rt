@@ -1,5 +1,6 @@
 // A call's change, made in a table that is lent by `&mut`.
 #![tactic(auto)]
+
 ghost use Rattle.std.specs.Prelude.{◌≡◌, not, ◌&&◌, ltb};
 ghost use Rattle.table_change.specs.Change.{changed};
 

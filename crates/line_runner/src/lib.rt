@@ -1,5 +1,6 @@
 // One line, whatever it is: a call, a fresh start, or the state shown.
 #![tactic(auto)]
+
 ghost use Rattle.std.specs.Prelude.{◌+◌, ◌*◌, ◌≤◌, length};
 ghost use Rattle.fresh_start.specs.Leaves.{Left};
 ghost use Rattle.script_state.specs.Start.{much};

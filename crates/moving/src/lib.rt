@@ -1,5 +1,6 @@
 // Bytes moved within a lent memory.
 #![tactic(auto)]
+
 ghost use Rattle.std.specs.Prelude.{◌≡◌, ◌+◌, ◌<◌, ◌≤◌, length};
 ghost use Rattle.pieces.specs.Memory.{patch, part};
 

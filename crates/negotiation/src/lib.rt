@@ -1,5 +1,6 @@
 // The size negotiation, and the option that counts as absent.
 #![tactic(auto)]
+
 ghost use Rattle.std.specs.Prelude.{◌≡◌, ◌^◌, ◌<◌, ◌≤◌, min};
 ghost use Rattle.block_value.specs.Value.{block_size, block_start};
 ghost use Rattle.negotiation.specs.Negotiation.{option_of, request_block, reply_of, reply_at, negotiated};

@@ -1,5 +1,6 @@
 // What the two calls change of a table by value, with the answer in numbers.
 #![tactic(auto)]
+
 ghost use Rattle.call.specs.Contract.{world, request_call, response_call};
 ghost use Rattle.table_change.specs.Change.{changed};
 ghost use Rattle.outcomes.specs.Contract.{Replies};

@@ -1,5 +1,6 @@
 // Lent memory: bytes copied into it, zeros filled in, and a part of it lent on.
 #![tactic(auto)]
+
 ghost use Rattle.std.specs.Prelude.{◌∷◌, [], ◌≡◌, ◌+◌, ◌<◌, ◌≤◌, length, replicate};
 ghost use Rattle.pieces.specs.Memory.{patch, within, Put};
 

@@ -1,5 +1,6 @@
 // What a call sees of the table, with the place of its key: the entry in use for it, else the lowest free one.
 #![tactic(auto)]
+
 ghost use Rattle.std.specs.Prelude.{◌≡◌, true, cond, ◌&&◌, ◌^◌, ◌<◌, length, leb, eqb};
 ghost use Rattle.keys.specs.Lists.{find};
 ghost use Rattle.keys.specs.Keys.{Name, key_of, named_of};

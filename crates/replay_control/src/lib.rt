@@ -1,5 +1,6 @@
 // The lines that a replay has beyond a script's, and what is printed for a fresh start.
 #![tactic(auto)]
+
 use config::Config;
 
 mod lines;

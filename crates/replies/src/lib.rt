@@ -1,5 +1,6 @@
 // Answers in numbers, as they cross to C, and where the bytes stand that they show.
 #![tactic(auto)]
+
 use block_state::{Part, Recorded};
 
 mod numbers;

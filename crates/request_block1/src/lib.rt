@@ -1,5 +1,6 @@
 // A request's Block1 value: strict mode's checks, and the block spliced into the key's piece of the upload memory.
 #![tactic(auto)]
+
 ghost use Rattle.std.specs.Prelude.{◌≡◌, ◌≤◌, length};
 ghost use Rattle.request_block1.specs.Block1.{bad_form, not_next, length_met, taken_as, taken, piece_taken};
 

@@ -1,5 +1,6 @@
 // A request's Block2 value: recorded, and served from the cache.
 #![tactic(auto)]
+
 ghost use Rattle.std.specs.Prelude.{◌≡◌, List, ℕ, ◌^◌, ◌<◌};
 ghost use Rattle.chunks.specs.Chunk.{chunk_of};
 ghost use Rattle.block_state.specs.Step.{left};

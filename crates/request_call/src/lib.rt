@@ -1,5 +1,6 @@
 // A request: what it changes of a table, and of the upload memory.
 #![tactic(auto)]
+
 ghost use Rattle.std.specs.Prelude.{◌≡◌, List, ℕ, length};
 ghost use Rattle.entries.specs.Entries.{sweep};
 ghost use Rattle.places.specs.Places.{opened};

@@ -1,5 +1,6 @@
 // A request's step, on its key's state and its piece of the upload memory: Block1, then Block2.
 #![tactic(auto)]
+
 ghost use Rattle.std.specs.Prelude.{◌≡◌, List, ℕ, ◌^◌, ◌<◌, length};
 ghost use Rattle.block_state.specs.Step.{left};
 ghost use Rattle.block_state.specs.Contract.{Room};

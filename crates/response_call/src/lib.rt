@@ -1,5 +1,6 @@
 // A response: what it changes of a table, and of the response memory.
 #![tactic(auto)]
+
 ghost use Rattle.std.specs.Prelude.{◌≡◌, List, ℕ, length};
 ghost use Rattle.block_state.specs.Message.{response};
 ghost use Rattle.block_state.specs.Contract.{replying};

@@ -1,5 +1,6 @@
 // A response's step, on its key's state and its piece of the response memory.
 #![tactic(auto)]
+
 ghost use Rattle.std.specs.Prelude.{◌≡◌, ◌++◌, ◌+◌, ◌^◌, ◌<◌, ◌≤◌, true, length};
 ghost use Rattle.pieces.specs.Memory.{patch};
 ghost use Rattle.chunks.specs.Chunk.{chunk_of};

@@ -1,5 +1,6 @@
 // The run of a script, line by line, which both programs make.
 #![tactic(auto)]
+
 ghost use Rattle.std.specs.Prelude.{◌≡◌, not};
 
 use ending::Ending;

@@ -1,5 +1,6 @@
 // What a line prints: an answer, or that it cannot be read.
 #![tactic(auto)]
+
 ghost use Rattle.std.specs.Prelude.{◌≡◌, ◌+◌, ◌≤◌, length};
 ghost use Rattle.pieces.specs.Memory.{Put};
 ghost use Rattle.script.specs.Line.{unreadable};

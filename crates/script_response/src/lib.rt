@@ -1,5 +1,6 @@
 // A line that says a response: called, and its answer printed.
 #![tactic(auto)]
+
 ghost use Rattle.std.specs.Prelude.{◌+◌, ◌≤◌, length};
 ghost use Rattle.script.specs.Line.{InBuffer};
 ghost use Rattle.script_print.specs.Run.{Ran};

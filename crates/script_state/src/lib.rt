@@ -1,5 +1,6 @@
 // Where a script stands, and what a program does around its lines: the start, the count, the output that waits.
 #![tactic(auto)]
+
 ghost use Rattle.std.specs.Prelude.{◌≡◌, ◌≤◌, true, false, length, if◌then◌else◌, nat_lt};
 ghost use Rattle.pieces.specs.Memory.{Put};
 ghost use Rattle.script_state.specs.Start.{script_config, header, begun, counted_in, much};

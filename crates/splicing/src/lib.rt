@@ -1,5 +1,6 @@
 // The splice of a block into one piece of lent memory.
 #![tactic(auto)]
+
 ghost use Rattle.std.specs.Prelude.{◌≡◌, ◌+◌, ◌-◌, ◌^◌, ◌≤◌, ◌<◌, max, length};
 ghost use Rattle.splicing.specs.Splice.{spliced_length, splice_of, piece_after, left_by, room_in};
 

@@ -1,5 +1,6 @@
 // The limits of one key's state, which a lent table may be off, and the bytes that it holds.
 #![tactic(auto)]
+
 ghost use Rattle.std.specs.Prelude.{◌≡◌, ◌+◌, ◌^◌, ◌<◌};
 ghost use Rattle.block_state.specs.State.{assembled_ok, cached_ok, recorded_ok, state_ok, is_nothing};
 ghost use Rattle.block_state.specs.Held.{held_in, held_of};

@@ -1,5 +1,6 @@
 // The state on one line: clock, bytes held, entries in use, and the numbers of the memories.
 #![tactic(auto)]
+
 use block_table::Table;
 use entries::Entry;
 

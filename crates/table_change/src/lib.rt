@@ -1,5 +1,6 @@
 // What a call changes of a table.
 #![tactic(auto)]
+
 ghost use Rattle.std.specs.Prelude.{◌≡◌, ◌^◌, ◌<◌};
 ghost use Rattle.table_change.specs.Change.{changed, unchanged, opened_from, change_to};
 

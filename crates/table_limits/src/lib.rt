@@ -1,5 +1,6 @@
 // Whether a configuration, a table and both memories are within their limits, without a call; and whether a table is fresh.
 #![tactic(auto)]
+
 ghost use Rattle.std.specs.Prelude.{◌≡◌, ◌&&◌, eqb};
 ghost use Rattle.keys.specs.Lists.{all};
 ghost use Rattle.entries.specs.Entries.{unused, entry_ok};

@@ -1,5 +1,6 @@
 // A digest folded to a tag, and whether sixteen tags all differ: how the keys of a table are told apart without comparing all pairs.
 #![tactic(auto)]
+
 ghost use Rattle.std.specs.Prelude.{◌≡◌, cond, ◌+◌, ◌*◌, ◌/◌, ◌%◌, ◌≤◌, ◌<◌, eqb};
 ghost use Rattle.tags.specs.Tags.{folded, times, pairs};
 

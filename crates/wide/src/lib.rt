@@ -1,5 +1,6 @@
 // Numbers widened, each with what its type says of it: a cast alone gives a proof no bound.
 #![tactic(auto)]
+
 ghost use Rattle.std.specs.Prelude.{◌≡◌, ◌^◌, ◌<◌};
 
 pub fn u32_of_u8(byte: u8) -> u32

@@ -1,9 +1,5 @@
-use mathlib.Core.Path.{◌≡◌, refl, sym, ◌∙◌}
-use Prim.Native.Nat.{◌-◌, ◌≤◌}
+use mathlib.Core.Path.{refl, sym, ◌∙◌}
 use native.Mathlib.Omega.{arith}
-use lib.ListN.{length, drop}
-use borrow.Author.Tests.{not-true, not-false}
-use Rattle.block_table.specs.Table.{distinct}
 use Rattle.entries.proofs.Turns.{nil}
 use Rattle.block_table.proofs.Quick.{row-go, row-no, row-end}
 use borrow.Author.Rules.{rules}

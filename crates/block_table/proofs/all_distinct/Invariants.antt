@@ -1,12 +1,7 @@
-use mathlib.Core.Path.{◌≡◌, refl, sym, ◌∙◌}
+use mathlib.Core.Path.{◌≡◌}
 use Prim.Native.Nat.{◌-◌, ◌≤◌}
-use native.Mathlib.Omega.{arith}
 use lib.ListN.{length, drop}
-use borrow.Author.Tests.{not-true, not-false}
 use Rattle.block_table.specs.Table.{distinct}
-use Rattle.entries.proofs.Turns.{nil}
-use Rattle.block_table.proofs.Quick.{row-go, row-no, row-end}
-use borrow.Author.Rules.{rules}
 use Rattle.block_table.proofs.all_distinct.Given as goal
 
 abbrev pub invariant-loop-i : goal.invariant-loop-i

@@ -1,10 +1,7 @@
-use mathlib.Core.Path.{◌≡◌, refl, sym, ap, ◌∙◌}
+use mathlib.Core.Path.{refl, sym, ap, ◌∙◌}
 use mathlib.Core.Bool.{not}
-use Prim.Native.Nat.{◌-◌}
 use native.Mathlib.Omega.{arith}
-use lib.ListN.{length, drop}
 use Rattle.entries.specs.Entries.{clash}
-use Rattle.block_table.specs.Quick.{alone}
 use Rattle.keys.proofs.Turns.{all_go, all-no, all_end}
 use Rattle.entries.proofs.Turns.{nil}
 use borrow.Author.Rules.{rules}

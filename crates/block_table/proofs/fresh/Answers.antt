@@ -1,5 +1,4 @@
 use Rattle.entries.specs.Held.{held_by, held}
-use borrow.Author.Rules.{rules}
 use Rattle.block_table.proofs.fresh.Goals as goal
 
 pub returns : goal.returns

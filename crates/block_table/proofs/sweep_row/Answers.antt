@@ -1,16 +1,16 @@
-use mathlib.Core.Path.{◌≡◌, refl, sym, ◌∙◌}
-use mathlib.Core.List.{◌++◌, map, append-nil}
-use Prim.Native.Nat.{◌-◌, ◌≤◌}
+use mathlib.Core.Path.{refl, sym, ◌∙◌}
+use mathlib.Core.List.{append-nil}
+use Prim.Native.Nat.{◌≤◌}
 use native.Mathlib.Omega.{arith}
-use lib.ListN.{length, drop, take, length-set, drop_of_length-le}
+use lib.ListN.{length, length-set, drop_of_length-le}
 use lib.Seq.{take_all}
 use Rattle.entries.specs.Entries.{swept, sweep}
 use Rattle.entries.proofs.Cases.{live-as}
 use Rattle.block_table.proofs.Turns.{map-set, map-keep}
 use Rattle.entries.proofs.Entries.{swept-live, swept-dead}
 use borrow.Author.Rules.{rules}
-use Rattle.block_table.proofs.sweep_row.Goals as goal
 use Rattle.block_table.proofs.sweep_row.Goals.{then-not-is_live, else-not-is_live}
+use Rattle.block_table.proofs.sweep_row.Goals as goal
 
 pub loop-i-init : goal.loop-i-init
 loop-i-init c = (search rules, (search rules, refl))

@@ -1,6 +1,5 @@
 use mathlib.Core.Path.{refl}
 use Rattle.judge.specs.Limits.{config_ok}
-use borrow.Author.Rules.{rules}
 use Rattle.judge.proofs.config_ok.Goals as goal
 
 pub returns : goal.returns

@@ -1,6 +1,5 @@
 use Rattle.judge.specs.Limits.{memories_ok}
 use mathlib.Core.Path.{refl}
-use borrow.Author.Rules.{rules}
 use Rattle.judge.proofs.memories_ok.Goals as goal
 
 pub returns : goal.returns

@@ -1,6 +1,5 @@
 use mathlib.Core.Path.{sym, ◌∙◌}
 use Rattle.judge.proofs.Judged.{config-fits}
-use borrow.Author.Rules.{rules}
 use Rattle.judge.proofs.numbers_ok.Goals as goal
 
 pub memories_ok-requires : goal.memories_ok-requires

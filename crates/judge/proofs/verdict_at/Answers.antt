@@ -1,4 +1,3 @@
-use borrow.Author.Rules.{rules}
 use Rattle.judge.proofs.verdict_at.Goals as goal
 
 pub returns-else-early-2 : goal.returns-else-early-2

@@ -1,10 +1,6 @@
 use mathlib.Core.Path.{◌≡◌, sym, ap, ◌∙◌}
 use mathlib.Core.Bool.{not}
-use Prim.Native.Nat.{◌+◌, ◌-◌, ◌≤◌}
 use native.Mathlib.Omega.{arith}
-use lib.ListN.{length, drop}
-use borrow.Author.Tests.{not-true, not-false}
-use Rattle.keys.specs.Lists.{find}
 use Rattle.entries.specs.Quick.{not_live}
 use Rattle.keys.proofs.Turns.{find-go, find-here, find-end}
 use Rattle.entries.proofs.Cases.{live-as}

@@ -1,15 +1,8 @@
-use mathlib.Core.Path.{◌≡◌, sym, ap, ◌∙◌}
-use mathlib.Core.Bool.{not}
+use mathlib.Core.Path.{◌≡◌}
 use Prim.Native.Nat.{◌+◌, ◌-◌, ◌≤◌}
-use native.Mathlib.Omega.{arith}
 use lib.ListN.{length, drop}
-use borrow.Author.Tests.{not-true, not-false}
 use Rattle.keys.specs.Lists.{find}
 use Rattle.entries.specs.Quick.{not_live}
-use Rattle.keys.proofs.Turns.{find-go, find-here, find-end}
-use Rattle.entries.proofs.Cases.{live-as}
-use Rattle.entries.proofs.Turns.{nil}
-use borrow.Author.Rules.{rules}
 use Rattle.key_place.proofs.find_free.Given as goal
 
 abbrev pub invariant-loop-at : goal.invariant-loop-at

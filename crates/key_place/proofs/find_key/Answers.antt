@@ -1,10 +1,5 @@
 use mathlib.Core.Path.{◌≡◌, sym, ◌∙◌}
-use Prim.Native.Nat.{◌+◌, ◌-◌, ◌≤◌}
 use native.Mathlib.Omega.{arith}
-use lib.ListN.{length, drop}
-use Rattle.keys.specs.Lists.{find}
-use Rattle.keys.specs.Keys.{key_of}
-use Rattle.entries.specs.Quick.{holds_live}
 use Rattle.keys.proofs.Turns.{find-go, find-here, find-end}
 use Rattle.entries.proofs.Turns.{nil}
 use borrow.Author.Rules.{rules}

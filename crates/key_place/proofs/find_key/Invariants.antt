@@ -1,13 +1,9 @@
-use mathlib.Core.Path.{◌≡◌, sym, ◌∙◌}
+use mathlib.Core.Path.{◌≡◌}
 use Prim.Native.Nat.{◌+◌, ◌-◌, ◌≤◌}
-use native.Mathlib.Omega.{arith}
 use lib.ListN.{length, drop}
 use Rattle.keys.specs.Lists.{find}
 use Rattle.keys.specs.Keys.{key_of}
 use Rattle.entries.specs.Quick.{holds_live}
-use Rattle.keys.proofs.Turns.{find-go, find-here, find-end}
-use Rattle.entries.proofs.Turns.{nil}
-use borrow.Author.Rules.{rules}
 use Rattle.key_place.proofs.find_key.Given as goal
 
 abbrev pub invariant-loop-i : goal.invariant-loop-i

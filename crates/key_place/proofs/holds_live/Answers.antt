@@ -1,6 +1,5 @@
 use mathlib.Core.Path.{sym, ◌∙◌}
 use Rattle.entries.proofs.Cases.{live-as, held-expired, held-as}
-use borrow.Author.Rules.{rules}
 use Rattle.key_place.proofs.holds_live.Goals as goal
 
 pub returns-then-is_live : goal.returns-then-is_live

@@ -1,6 +1,5 @@
 use mathlib.Core.Path.{sym, ◌∙◌}
 use Rattle.key_place.proofs.Unswept.{place_kept, place-new}
-use borrow.Author.Rules.{rules}
 use Rattle.key_place.proofs.place_of.Goals as goal
 
 pub returns-then-i-lt16 : goal.returns-then-i-lt16

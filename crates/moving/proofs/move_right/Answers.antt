@@ -9,13 +9,13 @@ use Rattle.moving.proofs.move_right.Goals as goal
 pub loop-i-init : goal.loop-i-init
 loop-i-init c =
     let within : length (part c.args.mem.now c.args.from c.args.n) ≡ c.args.n =
-        length_part _ _ _ (omega arith) in
+    length_part _ _ _ (omega arith) in
     down-start _ _ _ _ within
 
 pub loop-i-preserved : goal.loop-i-preserved
 loop-i-preserved c =
     let within : length (part c.args.mem.now c.args.from c.args.n) ≡ c.args.n =
-        length_part _ _ _ (omega arith) in
+    length_part _ _ _ (omega arith) in
     let t = c.loop-i-test.true in
     down_turn _ _ _ _ _ _ _ within c.requires.n_in_bounds c.loop-i.invariant t (move-down-reads _ _ _ _ _ _ c.requires.from_le_to c.requires.n_in_bounds c.loop-i.invariant t)
 

@@ -9,7 +9,7 @@ use Rattle.negotiation.proofs.reply_to.Goals as goal
 pub reply_at-requires : goal.reply_at-requires
 reply_at-requires c =
     let small : c.size-size.result ≤ 2048 =
-        rw c.size-size.ensures (size-most c.args.block.size_exponent) in
+    rw c.size-size.ensures (size-most c.args.block.size_exponent) in
     (c.start-offset.ensures.1, small)
 
 pub returns-then-size-max_block_size : goal.returns-then-size-max_block_size
@@ -20,7 +20,7 @@ returns-then-size-max_block_size c =
 pub reply_at-requires-2 : goal.reply_at-requires-2
 reply_at-requires-2 c =
     let small : c.size-size.result ≤ 2048 =
-        rw c.size-size.ensures (size-most c.args.block.size_exponent) in
+    rw c.size-size.ensures (size-most c.args.block.size_exponent) in
     (c.start-offset.ensures.1, omega (arith, small))
 
 pub returns : goal.returns

@@ -11,7 +11,6 @@ loop-i-init c = up_start _ _ (replicate c.args.n 0) _
 pub loop-i-preserved : goal.loop-i-preserved
 loop-i-preserved c =
     let i = c.loop-i.i in
-    
     up_turn _ _ _ _ _ _ _ (length-replicate _ _) c.requires c.loop-i.invariant c.loop-i-test.true (sym (get_or-replicate c.args.n i 0 0 c.loop-i-test.true))
 
 pub returns : goal.returns

@@ -1,6 +1,5 @@
 use mathlib.Core.Path.{sym, ◌∙◌}
 use Rattle.places.specs.Places.{place_of}
-use borrow.Author.Rules.{rules}
 use Rattle.places.proofs.close_place.Goals as goal
 
 pub returns-then-all_distinct : goal.returns-then-all_distinct

@@ -1,12 +1,8 @@
-use mathlib.Core.Path.{◌≡◌, sym, ◌∙◌}
+use mathlib.Core.Path.{◌≡◌}
 use Prim.Native.Nat.{◌+◌, ◌-◌, ◌≤◌}
-use native.Mathlib.Omega.{arith}
 use lib.ListN.{length, drop}
 use lib.Dec.{eqb}
-use borrow.Author.Tests.{eq-eqb, ne_eqb}
 use Rattle.keys.specs.Lists.{find}
-use Rattle.keys.proofs.Turns.{find-go, find-here, find-end}
-use borrow.Author.Rules.{rules}
 use Rattle.places.proofs.find_tag.Given as goal
 
 abbrev pub invariant-loop-i : goal.invariant-loop-i

@@ -1,5 +1,4 @@
 use mathlib.Core.Path.{◌∙◌}
-use borrow.Author.Rules.{rules}
 use Rattle.places.proofs.index_of.Goals as goal
 
 pub returns-in-At : goal.returns-in-At

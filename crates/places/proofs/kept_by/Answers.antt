@@ -4,7 +4,6 @@ use Rattle.entries.specs.Held.{held_by}
 use Rattle.entries.proofs.Cases.{live-as}
 use Rattle.entries.proofs.Entries.{swept-live, swept-dead}
 use Rattle.entries.proofs.Held.{free-holds}
-use borrow.Author.Rules.{rules}
 use Rattle.places.proofs.kept_by.Goals as goal
 
 pub returns-then-is_live : goal.returns-then-is_live

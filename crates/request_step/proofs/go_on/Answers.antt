@@ -16,18 +16,14 @@ overflow_add-body c =
     omega (arith, c.requires.0)
 
 pub returns-in-Refused : goal.returns-in-Refused
-returns-in-Refused c = λ u.  rw c.in-Refused.is (returned _ _ u _ c.refused.ensures)
+returns-in-Refused c = λ u. rw c.in-Refused.is (returned _ _ u _ c.refused.ensures)
 
 pub returns-in-More : goal.returns-in-More
 returns-in-More c =
     λ u.
-    
-    
     rw (c.in-More.is, c.answered.ensures, c.with_assembled-next.ensures)
 
 pub returns-in-Body : goal.returns-in-Body
 returns-in-Body c =
     λ u.
-    
-    
     rw (c.in-Body.is, ← c.with_assembled-next-in-Body.ensures) (c.maybe_handle_request_block2.ensures u)

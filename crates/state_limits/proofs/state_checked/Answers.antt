@@ -5,9 +5,8 @@ use Rattle.state_limits.proofs.state_checked.Goals as goal
 
 pub returns : goal.returns
 unfolding state_ok
-returns c =
-    (
-      rw (c.assembled_ok.ensures, c.cached_checked-held.ensures.0, c.recorded_ok.ensures),
-      rw (c.u64_of_u32.ensures.0, c.cached_checked-held.ensures.1),
-      omega (arith, c.u64_of_u32.ensures.1, c.cached_checked-held.ensures.2),
-    )
+returns c = (
+  rw (c.assembled_ok.ensures, c.cached_checked-held.ensures.0, c.recorded_ok.ensures),
+  rw (c.u64_of_u32.ensures.0, c.cached_checked-held.ensures.1),
+  omega (arith, c.u64_of_u32.ensures.1, c.cached_checked-held.ensures.2),
+)

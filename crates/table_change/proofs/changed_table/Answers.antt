@@ -1,5 +1,4 @@
 use mathlib.Core.Path.{◌∙◌}
-use borrow.Author.Rules.{rules}
 use Rattle.table_change.proofs.changed_table.Goals as goal
 
 pub returns-then-change : goal.returns-then-change

@@ -1,5 +1,4 @@
 use mathlib.Core.Path.{◌∙◌}
-use borrow.Author.Rules.{rules}
 use Rattle.table_change.proofs.opened_entry.Goals as goal
 
 pub returns : goal.returns
