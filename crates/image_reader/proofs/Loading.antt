@@ -1,5 +1,5 @@
 -- What is read of an image, and what loading comes to, by its cases. Assumes nothing.
-use Prim.Native.Nat.{ℕ, ◌+◌, ◌*◌, ◌≤◌}
+use Prim.Native.Nat.{ℕ, ◌*◌}
 use mathlib.Core.Bool.{Bool, true, false, ◌&&◌}
 use mathlib.Core.Path.{◌≡◌, refl, sym, ap, ◌∙◌}
 use mathlib.Core.List.{List}
@@ -20,7 +20,7 @@ use Rattle.entries.specs.Entries.{free}
 use Rattle.block_table.specs.declared.Table.{Table}
 use Rattle.block_table.specs.Table.{table_ok, table_of}
 use Rattle.block_table.proofs.TableFits.{table_fits}
-use Rattle.judge.specs.Limits.{config_ok, memories_ok}
+use Rattle.judge.specs.Limits.{memories_ok}
 use Rattle.call.specs.Call.{World}
 use Rattle.call.specs.Contract.{world}
 use Rattle.image_format.specs.Rows.{rows_from, count, read_rows}
@@ -29,7 +29,7 @@ use Rattle.image_format.proofs.Rows.{read-sixteen}
 use Rattle.image_format.proofs.Judged.{passes, judged}
 use Rattle.image_measure.specs.Room.{Rooms}
 use Rattle.image_measure.proofs.Rooms.{rooms}
-use Rattle.image_reader.specs.Load.{is_fresh, fresh_ok, world_of, loading, loaded}
+use Rattle.image_reader.specs.Load.{fresh_ok, loading, loaded}
 
 -- the table that an image describes
 abbrev pub described : List ℕ → Table

@@ -1,7 +1,7 @@
 -- What a row tells, read where it stands in the image. Assumes nothing.
 use Prim.Native.Nat.{ℕ, ◌+◌, ◌-◌, ◌≤◌, ◌<◌}
 use mathlib.Core.Bool.{true}
-use mathlib.Core.Path.{◌≡◌, sym, ap, ◌∙◌}
+use mathlib.Core.Path.{◌≡◌, ap, ◌∙◌}
 use mathlib.Core.List.{List}
 use native.Mathlib.Omega.{arith}
 use lib.ListN.{length, get_or, take, drop}
@@ -10,9 +10,7 @@ use Rattle.pieces.specs.Memory.{part}
 use Rattle.pieces.proofs.Memory.{get_d_part, take_part, drop-part}
 use Rattle.big_endian.specs.Numbers.{number_at}
 use Rattle.big_endian.proofs.Numbers.{number-part}
-use Rattle.block_state.specs.declared.BlockState.{BlockState}
 use Rattle.keys.specs.Keys.{stored}
-use Rattle.entries.specs.declared.Entry.{Entry}
 use Rattle.image_format.specs.Rows.{read_entry}
 
 module _ (l : List ℕ) (at : ℕ) (h : at + 96 ≤ length l) where

@@ -1,7 +1,7 @@
 -- An image is put part by part; and what saving comes to, by its cases. Assumes nothing.
 use Prim.Native.Nat.{ℕ, ◌≤◌, ◌<◌}
 use mathlib.Core.Bool.{Bool, true, false, ◌&&◌}
-use mathlib.Core.Path.{◌≡◌, refl, sym, ap, ◌∙◌}
+use mathlib.Core.Path.{◌≡◌, refl, sym, ◌∙◌}
 use mathlib.Core.List.{List}
 use native.Mathlib.Omega.{arith}
 use lib.ListN.{length}
@@ -19,7 +19,7 @@ use Rattle.block_table.proofs.Row.{length-sweep}
 use Rattle.judge.specs.Limits.{config_ok, memories_ok}
 use Rattle.call.specs.Call.{World}
 use Rattle.image_format.specs.Rows.{rows_from}
-use Rattle.image_format.specs.Image.{assembled_in, cached_in, total, header, image_bytes}
+use Rattle.image_format.specs.Image.{assembled_in, cached_in, header, image_bytes}
 use Rattle.image_measure.specs.Room.{Rooms}
 use Rattle.image_measure.proofs.Rooms.{rooms}
 use Rattle.image_writer.specs.Save.{live_entries, image_with, image_of, needed, saving, length_asked, saved, output_after}

@@ -1,5 +1,5 @@
 -- SAVING: "write the live entries to an image" (document 02).
-use Rattle.std.specs.Prelude.{ℕ, Bool, cond, not, ◌&&◌, List, length, ltb, eqb}
+use Rattle.std.specs.Prelude.{ℕ, cond, not, ◌&&◌, List, length, ltb, eqb}
 use Rattle.pieces.specs.Memory.{patch}
 use Rattle.config.specs.declared.Config.{Config}
 use Rattle.gathering.specs.Gather.{gathered}
