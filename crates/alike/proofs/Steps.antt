@@ -189,7 +189,7 @@ module _ (c : Config) (i : ℕ) (payload : List ℕ) where
           of (splice.Refused n) e more = tt
           of (splice.Body n) e more =
               let is = taken_is c.upload (met b) (block_start b) (block_size b) (length payload) n e in
-              elim more [
+              elim more as (λ m. Both b (taken_as m (splice.Body n))) [
                 | true ↦ (is.1, after_same b n is.0)
                 | false ↦ (is.1, after_same b n is.0)
               ]

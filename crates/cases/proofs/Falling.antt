@@ -1,19 +1,22 @@
 -- What demand 3 for a sender that goes smaller asks for can be given, by computation, and the shams break it. Assumes nothing.
 use Prim.Native.Nat.{ℕ, zero, suc, ◌+◌, ◌≤◌, ◌<◌}
-use mathlib.Core.Bool.{Bool, true, false, false≢true}
+use mathlib.Core.Bool.{Bool, true, false, cond, false≢true}
 use mathlib.Core.Path.{◌≡◌, refl}
 use mathlib.Core.Logic.{inr}
 use mathlib.Core.List.{◌∷◌, []}
 use native.Mathlib.Omega.{arith}
 use Rattle.config.proofs.Mode.{nums-least}
-use Rattle.apart.specs.Answers.{continue, refusal}
+use Rattle.negotiation.specs.declared.MaybeBlock.TheVariants.{Given}
+use Rattle.apart.specs.Answers as answers
+use Rattle.apart.specs.Answers.{said, continue, refusal}
+use Rattle.call.specs.Call.{call}
 use Rattle.one_call.proofs.Checks.{well-formed, next-not-misplaced}
-use Rattle.demands.specs.Demand3.{call_on, block, AllBytes, Granted}
+use Rattle.demands.specs.Demand3.{run, call_on, block, AllBytes, Granted}
 use Rattle.demands.specs.Falling.{FallingBlocks, Extends, Demand3Falling}
 use Rattle.demands.proofs.Falling.{extends}
 use Rattle.demands.proofs.Demand3.{granted-own}
 use Rattle.many_calls.specs.Twice.{SentAgain}
-use Rattle.cases.specs.Shams.{key}
+use Rattle.cases.specs.Shams.{kinds, numbers, key}
 use Rattle.cases.specs.Falling.{narrow, lent, falling, first64, next32, last16, rest, later, CanFall, SaidYesAndNo, one_size_only, FallingExcluded}
 use Rattle.cases.proofs.Computes.{values, limits, calls}
 use Rattle.cases.proofs.Shams.{fresh-free, fresh-nothing, reads}
@@ -69,6 +72,24 @@ again-fall strict =
       soon = omega arith;
     }
 
+reply_fall : (strict : Bool) → (said (call (narrow strict) lent (call_on key (first64 5 65))).answer).block1 ≡ Given (block 0 true 1)
+unfolding calls
+reply_fall true = refl
+reply_fall false = refl
+
+between_fall : (strict : Bool)
+    → kinds (run call (narrow strict) lent (call_on key (first64 5 65) ∷ later))
+    ≡ continue ∷ continue ∷ refusal ∷ answers.first ∷ continue ∷ cond strict refusal continue ∷ answers.handed ∷ []
+unfolding calls
+between_fall true = refl
+between_fall false = refl
+
+refusals_fall : (strict : Bool)
+    → numbers (run call (narrow strict) lent (call_on key (first64 5 65) ∷ later)) ≡ 0 ∷ 0 ∷ 1 ∷ 0 ∷ 0 ∷ cond strict 9 0 ∷ 0 ∷ []
+unfolding calls
+refusals_fall true = refl
+refusals_fall false = refl
+
 pub can-fall : CanFall
 unfolding calls
 can-fall =
@@ -76,9 +97,9 @@ can-fall =
       blocks = λ strict. blocks-fall strict 5 8 9 65 66 67 (omega arith) (omega arith);
       granted = given-fall;
       no_room = λ strict. omega arith;
-      reply = λ strict. elim strict [ true ↦ refl | false ↦ refl ];
-      between = λ strict. elim strict [ true ↦ refl | false ↦ refl ];
-      refusals = λ strict. elim strict [ true ↦ refl | false ↦ refl ];
+      reply = reply_fall;
+      between = between_fall;
+      refusals = refusals_fall;
       twice = again-fall;
       live = (0, omega arith, refl, refl);
       within = record { limits = refl; sixteen = refl; bytes = all-bytes };

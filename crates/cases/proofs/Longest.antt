@@ -19,7 +19,7 @@ use Rattle.block_option.specs.Uint.{Bytes}
 use Rattle.block_option.specs.Option.{written}
 use Rattle.block_option.proofs.Rfc7959.{as-the-rfc}
 use Rattle.negotiation.specs.Negotiation.{counted, request_block}
-use Rattle.negotiation.specs.declared.MaybeBlock.TheVariants.{Given}
+use Rattle.negotiation.specs.declared.MaybeBlock.TheVariants.{Absent, Given}
 use Rattle.block_state.specs.Message.{Request}
 use Rattle.keys.specs.Keys.{key_ok}
 use Rattle.keys.proofs.Keys.{same_refl}
@@ -104,11 +104,11 @@ module _ (c : Config) (x : ℕ) where
         blocks =
             record {
               count = rw (following-many 0 left) few;
-              numbered = each _ (λ j l b. (kept c (block j (marked l) x) b (omega arith)).1) 0 left (omega arith);
+              numbered = each (λ j more r. request_block c r.block1 ≡ Given (block j more x)) (λ j l b. (kept c (block j (marked l) x) b (omega arith)).1) 0 left (omega arith);
               size = known;
-              full = each _ (λ j l b. fills (marked l) (length-replicate (size_of x) 65)) 0 left (omega arith);
-              alone = each _ (λ j l b. refl) 0 left (omega arith);
-              room = each _ (λ j l b. room) 0 left (omega arith);
+              full = each (λ j more r. Fills more (length r.payload) (size_of x)) (λ j l b. fills (marked l) (length-replicate {A = ℕ} (size_of x) 65)) 0 left (omega arith);
+              alone = each (λ j more r. request_block c r.block2 ≡ Absent) (λ j l b. refl) 0 left (omega arith);
+              room = each (λ j more r. r.bare + 12 + size_of x ≤ c.limit) (λ j l b. room) 0 left (omega arith);
               fits = rw (joined_length 0 left) fits;
               prompt = prompt (leb-true 1 c.lifetime (search ands)) 0 left;
             }

@@ -1,6 +1,6 @@
 -- What demand 3 asks for can be given, and the four shams break it. Assumes nothing.
 use Prim.Native.Nat.{ℕ, zero, suc, ◌+◌, ◌-◌, ◌≤◌, ◌<◌}
-use mathlib.Core.Bool.{Bool, true, false, ◌&&◌}
+use mathlib.Core.Bool.{Bool, true, false, cond, ◌&&◌}
 use mathlib.Core.Path.{◌≡◌, refl, sym, ◌∙◌, ap}
 use mathlib.Core.Logic.{inl, inr}
 use mathlib.Core.List.{List, [], ◌∷◌, ◌++◌}
@@ -22,6 +22,7 @@ use Rattle.config.specs.declared.Config.{Config}
 use Rattle.block_state.specs.declared.Part.{Part}
 use Rattle.block_state.specs.declared.Answer.{Answer}
 use Rattle.block_state.specs.declared.Answer.TheVariants.{Continue, TooLarge, Handed, Pass, Served, Plain, Whole, First, Refused}
+use Rattle.apart.specs.Answers as answers
 use Rattle.apart.specs.Answers.{said, continue, handed}
 use Rattle.keys.specs.Keys as keys
 use Rattle.keys.specs.Keys.{Name}
@@ -29,11 +30,11 @@ use Rattle.entries.specs.declared.Entry.{Entry}
 use Rattle.entries.specs.Entries.{free, live}
 use Rattle.answer_sources.specs.Parts.{part_of, body_of}
 use Rattle.block_table.specs.Table.{fresh_table}
-use Rattle.call.specs.Call.{World}
+use Rattle.call.specs.Call.{World, call}
 use Rattle.one_call.specs.Handler.{Handler, entry_at}
-use Rattle.demands.specs.Demand3.{Sent, HasFree, HasLive, NothingInPlain, Blocks, Granted, Demand3, call_on, block}
+use Rattle.demands.specs.Demand3.{run, Sent, HasFree, HasLive, NothingInPlain, Blocks, Granted, Demand3, call_on, block}
 use Rattle.demands.proofs.Runs.{fresh-entry}
-use Rattle.cases.specs.Shams.{config, fresh, key, sent, first_block, last_block, later, wide, used, wide_first, wide_second, wide_last, CanBeGiven, Excluded, Exist}
+use Rattle.cases.specs.Shams.{kinds, numbers, config, fresh, key, sent, first_block, last_block, later, wide, used, wide_first, wide_second, wide_last, CanBeGiven, Excluded, Exist}
 use Rattle.cases.proofs.Computes.{values, limits, calls}
 
 -- ---- what is given can be given
@@ -148,14 +149,25 @@ blocks-three strict =
       prompt = (omega arith, (omega arith, tt));
     }
 
+between_given : (strict : Bool)
+    → kinds (run call (config strict) fresh (call_on key first_block ∷ later)) ≡ continue ∷ continue ∷ answers.refusal ∷ answers.first ∷ answers.refusal ∷ handed ∷ []
+unfolding calls
+between_given true = refl
+between_given false = refl
+
+refusals_given : (strict : Bool) → numbers (run call (config strict) fresh (call_on key first_block ∷ later)) ≡ 0 ∷ 0 ∷ 1 ∷ 0 ∷ cond strict 9 7 ∷ 0 ∷ []
+unfolding calls
+refusals_given true = refl
+refusals_given false = refl
+
 pub can-be-given : CanBeGiven
 unfolding calls
 can-be-given =
     record {
       one = λ strict. (blocks-one strict, given-one strict);
       two = λ strict. (blocks-two strict, given-two strict);
-      between = λ strict. elim strict [ true ↦ refl | false ↦ refl ];
-      refusals = λ strict. elim strict [ true ↦ refl | false ↦ refl ];
+      between = between_given;
+      refusals = refusals_given;
       live = has-live;
       three = λ strict. (blocks-three strict, given-three strict);
     }

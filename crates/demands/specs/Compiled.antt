@@ -10,9 +10,12 @@ use borrow.Fn.Kinds.{ended_of}
 use Rattle.config.specs.declared.Config.{Config}
 use Rattle.keys.specs.Keys.{Name}
 use Rattle.answer_sources.specs.Parts.{body_of}
+use Rattle.answers.specs.contracts.body as body_contract
 use Rattle.answers.proofs.body
 use Rattle.call.specs.Call.{World, Call, Done, call}
 use Rattle.call.specs.Contract.{world, request_call, response_call, Meant}
+use Rattle.block_handler.specs.contracts.intercept_request as request_contract
+use Rattle.block_handler.specs.contracts.intercept_response as response_contract
 use Rattle.block_handler.proofs.intercept_request
 use Rattle.block_handler.proofs.intercept_response
 use Rattle.one_call.specs.Handler.{Handler}
@@ -26,7 +29,7 @@ use Rattle.demands.specs.Falling.{FallingBlocks}
 -- the numbers, the key, the options or the head, and the payload, `message`.)
 abbrev pub RequestEnsures : Type 1
 RequestEnsures =
-    (κs : Lfts 2) (a : ArgsD intercept_request.signature κs) (r : ResD intercept_request.signature κs)
+    (κs : Lfts 2) (a : ArgsD request_contract.signature κs) (r : ResD request_contract.signature κs)
     (s : AtExit (ended_of 2 intercept_request.Kinds.ps intercept_request.Kinds.r) κs)
     → let mems = a.1.1 in
     let message = mems.1.1 in
@@ -38,7 +41,7 @@ RequestEnsures =
 -- And `intercept_response`.
 abbrev pub ResponseEnsures : Type 1
 ResponseEnsures =
-    (κs : Lfts 2) (a : ArgsD intercept_response.signature κs) (r : ResD intercept_response.signature κs)
+    (κs : Lfts 2) (a : ArgsD response_contract.signature κs) (r : ResD response_contract.signature κs)
     (s : AtExit (ended_of 2 intercept_response.Kinds.ps intercept_response.Kinds.r) κs)
     → let mems = a.1.1 in
     let message = mems.1.1 in
@@ -50,18 +53,18 @@ ResponseEnsures =
 -- The body that is seen is what `body` ensures of the answer, the payload and the upload memory.
 abbrev pub BodyEnsures : Type 1
 BodyEnsures =
-    (κs : Lfts 1) (a : ArgsD body.signature κs) (r : ResD body.signature κs) (s : AtExit (ended_of 1 body.Kinds.ps body.Kinds.r) κs)
+    (κs : Lfts 1) (a : ArgsD body_contract.signature κs) (r : ResD body_contract.signature κs) (s : AtExit (ended_of 1 body.Kinds.ps body.Kinds.r) κs)
     → body.Reads.Learnt κs a r s ≡ (r.now ≡ body_of a.0 a.1.0.now a.1.1.0.now)
 
 -- `Asked` is what a caller must show, as the checker reads it off the function's own contract; `Unit` asks nothing.
 abbrev pub RequestAsks : Type 1
-RequestAsks = (κs : Lfts 2) (a : ArgsD intercept_request.signature κs) → intercept_request.Reads.Asked κs a ≡ Unit {0}
+RequestAsks = (κs : Lfts 2) (a : ArgsD request_contract.signature κs) → intercept_request.Reads.Asked κs a ≡ Unit {0}
 
 abbrev pub ResponseAsks : Type 1
-ResponseAsks = (κs : Lfts 2) (a : ArgsD intercept_response.signature κs) → intercept_response.Reads.Asked κs a ≡ Unit {0}
+ResponseAsks = (κs : Lfts 2) (a : ArgsD response_contract.signature κs) → intercept_response.Reads.Asked κs a ≡ Unit {0}
 
 abbrev pub BodyAsks : Type 1
-BodyAsks = (κs : Lfts 1) (a : ArgsD body.signature κs) → body.Reads.Asked κs a ≡ Unit {0}
+BodyAsks = (κs : Lfts 1) (a : ArgsD body_contract.signature κs) → body.Reads.Asked κs a ≡ Unit {0}
 
 -- ---- What holds of whatever keeps these contracts
 

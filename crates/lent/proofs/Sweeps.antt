@@ -1,6 +1,6 @@
 -- A row in the middle of a walk that maps its entries one by one, and what such a walk has seen. Assumes nothing.
-use mathlib.Core.Path.{◌≡◌, refl, sym, ◌∙◌, ap}
-use Prim.Native.Nat.{ℕ, zero, suc, ◌<◌, ◌^◌, ◌+◌, ◌*◌, ◌≤◌}
+use mathlib.Core.Path.{◌≡◌, refl, sym, ◌∙◌, ap, subst}
+use Prim.Native.Nat.{ℕ, zero, suc, ◌<◌, ◌+◌, ◌≤◌}
 use native.Mathlib.Omega.{arith}
 use native.Mathlib.Nat.{add-zero, add-suc, not-suc-le-zero, le_of_suc-le-suc}
 use mathlib.Core.Bool.{Bool, true, false, cond}
@@ -11,7 +11,7 @@ use lib.Dec.{ltb}
 use borrow.Author.Tests.{lt-ltb, le-ltb, ltb-true, ltb-false}
 use Rattle.entries.specs.declared.Entry.{Entry}
 use Rattle.keys.specs.Lists.{find}
-use Rattle.entries.specs.Entries.{holds, unused}
+use Rattle.entries.specs.Entries.{holds, unused, swept, sweep}
 use Rattle.key_place.specs.Place.{place}
 use Rattle.lent.specs.declared.Seen.{Seen}
 use Rattle.lent.specs.Row.{first_of, seen_as, seen_next}
@@ -84,6 +84,27 @@ module _ (k : List ℕ) where
   unfolding place
   seen_all es = rw (take_all (length es) es (omega arith))
 
--- The bytes before entry i of a row fit in 64 bits.
-pub bytes_fit : {i n : ℕ} → n * 104 < 2 ^ 63 → i < n → i * 104 < 2 ^ 64
-bytes_fit room within = omega arith
+-- ---- a turn of the walk, and its end
+
+module _ (f : Entry → Entry) (k : List ℕ) where
+  pub one_turn : (i : ℕ) (xs es : List Entry) (s s' : Seen) (d r : Entry) → i < length xs → es ≡ upto f i xs → s ≡ seen_of k i (map f xs)
+      → r ≡ f (get_or es i d) → s' ≡ seen_next s i (i + 1) r k
+      → (set es i r ≡ upto f (i + 1) xs) × (s' ≡ seen_of k (i + 1) (map f xs))
+  one_turn i xs es s s' d r less row seen left sees =
+      let here : r ≡ f (get_or (upto f i xs) i d) = left ∙ ap (λ (z : List Entry). f (get_or z i d)) row in (
+        ap (λ (z : List Entry). set z i r) row ∙ ap (set (upto f i xs) i) here ∙ upto_next f i xs d less ∙ ap (λ (j : ℕ). upto f j xs) (one_more_lem i),
+        sees
+            ∙ ap (λ (z : Entry). seen_next s i (i + 1) z k) (here ∙ upto-at f i xs d less)
+            ∙ ap (λ (z : Seen). seen_next z i (i + 1) (get_or (map f xs) i d) k) seen
+            ∙ seen_next_lem k i (map f xs) d (subst (λ (m : ℕ). i < m) (sym (map-length f xs)) less),
+      )
+
+module _ (lifetime time : ℕ) (k : List ℕ) where
+  pub at_end : (i : ℕ) (xs es : List Entry) (s : Seen) → i ≡ length xs → es ≡ upto (swept lifetime time) i xs → s ≡ seen_of k i (map (swept lifetime time) xs)
+      → (es ≡ sweep lifetime time xs) × (s.place ≡ place k (sweep lifetime time xs))
+  unfolding sweep
+  at_end i xs es s all row seen =
+      let f = swept lifetime time in (
+        row ∙ ap (λ (j : ℕ). upto f j xs) all ∙ upto_all f xs,
+        ap (λ (z : Seen). z.place) seen ∙ ap (λ (m : ℕ). (seen_of k m (map f xs)).place) (all ∙ sym (map-length f xs)) ∙ seen_all k (map f xs),
+      )

@@ -1,4 +1,0 @@
-mod Cells
-mod Changes
-mod Forms
-pub mod Frees
