@@ -4,7 +4,7 @@ use mathlib.Core.Path.{◌≡◌, refl, sym, subst, ap}
 use Prim.Native.Nat.{ℕ}
 use mathlib.Core.List.{[], ◌∷◌, ◌++◌, List}
 use seplogic.Ra.Ura.{Ura}
-use seplogic.Ra.TreeShare.{full_share}
+use base.Fraction.{full_share}
 use mir.Syntax.{Ty, Fn, Body as Code, Place, local, value_local, return}
 use mir.Val.{Val}
 use base.Logic.{SProp, ent, sep, via}
@@ -41,20 +41,20 @@ module _ {M : Type 1} {𝓤 : Ura M} {𝓛 : Logic 𝓤} {Z : Type 0} where
   -- The call is made: the outcome is its result, and what it ensures, `Ens`, is kept.
   module _ (O : Declared) (L : LL.Laws O) where
     pub comes_back : Z → {Γ : List (Item 𝓤)} {C : Calls 𝓤 H} {Λ : Loops 𝓤 H} {E : Env 𝓤 H} {d : Place} {more : Code} {p : Post 𝓤 H} {P : SProp 𝓤} (v : Val)
-        (Toks : Item 𝓤) (Ens : O.D → SProp 𝓤) → ent 𝓤 P (mean 𝓛 (later (some (λ (r : O.D). (Toks ⊛ ‵ ((row O).own r (v ∷ []))) ⊛ raw (Ens r)))))
+        (Toks : Item 𝓤) (Ens : O.D → SProp 𝓤) → ent 𝓤 P (mean 𝓛 (later (some (λ (r : O.D). (Toks ⊛ ‵ ((row O).own_val r (v ∷ []))) ⊛ raw (Ens r)))))
         → ((r : O.D) → Is (row O) r (LL.vals O L r) → Seq Z 𝓛 (raw (Ens r) ∷ Toks ∷ Γ) (lands C Λ E d (LL.val O L r) more p))
         → Seq Z 𝓛 (raw P ∷ Γ) (lands C Λ E d v more p)
     comes_back t {Γ} {C} {Λ} {E} {d} {more} {p} v Toks Ens said k =
-        use1 𝓛 (later (some (λ (r : O.D). (Toks ⊛ ‵ ((row O).own r (v ∷ []))) ⊛ raw (Ens r)))) said $
+        use1 𝓛 (later (some (λ (r : O.D). (Toks ⊛ ‵ ((row O).own_val r (v ∷ []))) ⊛ raw (Ens r)))) said $
         await t tt $ pick t (λ r. split t $ split t $ move t (1 ∷ []) $ peeks t (row O) (Is (row O)) (shows 𝓛 (row O)) r (v ∷ []) (λ is. drop t $ move t (1 ∷ 0 ∷ []) $
         let told : v ∷ [] ≡ LL.vals O L r = LL.tells O L r (v ∷ []) is in
         subst (λ (w : Val). Seq Z 𝓛 (raw (Ens r) ∷ Toks ∷ Γ) (lands C Λ E d w more p)) (sym (ap only told)) (k r (subst (Is (row O) r) told is))))
 
 module _ (T : Declared) (L : LL.Laws T) (plain : Plains (fields T)) where
-  module _ {M : Type 1} {𝓤 : Ura M} {𝓛 : Logic 𝓤} where
+  module _ {M : Type 1} {𝓤 : Ura M} (𝓛 : Logic 𝓤) where
     -- What the callee asks: the struct by value, and the rest.
     pub goes_in : (Toks : Item 𝓤) (Rest : Fml) (h : T.D) → Is (row T) h (LL.vals T L h)
-        → ent 𝓤 (mean 𝓛 (Toks ⊛ ‵ Rest)) (mean 𝓛 ((Toks ⊛ ‵ (fsep ((row T).own h (LL.vals T L h)) Rest)) ⊛ ‵ ftrue))
+        → ent 𝓤 (mean 𝓛 (Toks ⊛ ‵ Rest)) (mean 𝓛 ((Toks ⊛ ‵ (fsep ((row T).own_val h (LL.vals T L h)) Rest)) ⊛ ‵ ftrue))
     goes_in Toks Rest h was =
         qed 𝓛 ((Toks ⊛ ‵ Rest) ∷ []) ∵ split ! $ move ! (1 ∷ []) $ owned ! (row T) (Is (row T)) (LL.makes T plain 𝓛) h _ was $ fjoin ! $
         move ! (1 ∷ 0 ∷ []) $ join ! $ frame ! $ nothing ! $ done !
@@ -109,7 +109,7 @@ module _ (T : Declared) (L : LL.Laws T) (plain : Plains (fields T)) where
 
     pub leaves : (𝓛 : Logic 𝓤) (S : Declared) (R : LL.Laws S) → Plains (fields S) → (r : S.D) → Is (row S) r (LL.vals S R r)
         → (Q : SProp 𝓤) → ent 𝓤 (sep 𝓤 (𝓛.A.res γ ((row T).coded.code h)) Ens) Q
-        → ent 𝓤 (⋆ 𝓛 Kept) (mean 𝓛 (((‵ (flft κ q) ⊛ Toks) ⊛ ‵ ((row S).own r (LL.vals S R r))) ⊛ raw Q))
+        → ent 𝓤 (⋆ 𝓛 Kept) (mean 𝓛 (((‵ (flft κ q) ⊛ Toks) ⊛ ‵ ((row S).own_val r (LL.vals S R r))) ⊛ raw Q))
     leaves 𝓛 S R S-plain r is Q on =
         qed 𝓛 Kept ∵ move ! (0 ∷ 2 ∷ []) $ use2 𝓛 (raw Q) on $ owned ! (row S) (Is (row S)) (LL.makes S S-plain 𝓛) r _ is $
         move ! (2 ∷ 3 ∷ []) $ join ! $ move ! (0 ∷ 1 ∷ []) $ join ! $ done !
@@ -122,7 +122,7 @@ module _ (T : Declared) (L : LL.Laws T) (plain : Plains (fields T)) where
         (Toks : Item 𝓤) (S : Declared) (R : LL.Laws S) → Plains (fields S) → (r : S.D) → Is (row S) r (LL.vals S R r)
         → (r' : Res F.signature y.0.0) (o : Res G.signature x.0.0)
         → let Q : SProp 𝓤 = ensured 𝓛 F c y.0.0 y.0.3 y.1 r' in
-        ent 𝓤 (mean 𝓛 (((‵ (flft κ q) ⊛ Toks) ⊛ ‵ ((row S).own r (LL.vals S R r))) ⊛ raw Q)) (sep 𝓤 (Back 𝓛 F.signature y.0 (LL.val S R r) r') Q)
+        ent 𝓤 (mean 𝓛 (((‵ (flft κ q) ⊛ Toks) ⊛ ‵ ((row S).own_val r (LL.vals S R r))) ⊛ raw Q)) (sep 𝓤 (Back 𝓛 F.signature y.0 (LL.val S R r) r') Q)
         → (last : Lasts G x.0.0 x.0.3 → Lasts F y.0.0 y.0.3)
         → ((z : Lasts G x.0.0 x.0.3) → ent 𝓤 (sep 𝓤 (A.res γ ((row T).coded.code h)) (its-lasts 𝓛 F G c d y x r' o z)) (own-lasts 𝓛 F G c d y x r' o (last z)))
         → ((z : Lasts G x.0.0 x.0.3) → ent 𝓤 (its-ensures 𝓛 F G c d y x r' o z) (own-ensures 𝓛 F G c d y x r' o (last z)))

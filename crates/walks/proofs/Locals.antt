@@ -6,7 +6,7 @@ use mathlib.Core.Option.{some}
 use mathlib.Core.List.{List, [], ◌∷◌, ◌++◌}
 use lib.ListN.{take, drop}
 use seplogic.Ra.Ura.{Ura}
-use seplogic.Ra.TreeShare.{full_share}
+use base.Fraction.{full_share}
 use mir.Syntax.{Ty, ty_int, ty_ref, w64, Lifetime, Mutability, Fn, Home, value_local, Local, local, Opd as Operand, copy, addr_of, place, field, deref, return}
 use mir.Val.{Val, Vals, vint, vptr, vstruct, vcons, vnil, of_list}
 use mir.Fields.{get_v, set_v}

@@ -21,7 +21,7 @@ seps (P ∷ Ps) = fsep P (seps Ps)
 -- what each parameter owns
 abbrev pub owned_by : (Rs : List RattleType) → Denots Rs → Valss Rs → List Fml
 owned_by [] a vs = []
-owned_by (R ∷ Rs) a vs = R.own a.0 vs.0 ∷ owned_by Rs a.1 vs.1
+owned_by (R ∷ Rs) a vs = R.own_val a.0 vs.0 ∷ owned_by Rs a.1 vs.1
 
 -- what is said of each at the end
 abbrev pub left-of : {n : ℕ} (κs : Lfts n) (ss : List (Slot n)) (ks : Kepts ss) (a : Denots (types_at ss κs)) → Fins κs ss ks a → List Fml

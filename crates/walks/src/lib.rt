@@ -1,3 +1,3 @@
-// Rules for proofs that walk code by hand: this crate has no code.
+// Rules for proofs that walk code by hand, which no proof here does now: this crate has no code.
 
 #![tactic(auto)]
