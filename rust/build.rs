@@ -22,6 +22,6 @@ fn link(name: &str, archive: &Path) {
         println!("cargo::rustc-link-lib=static={name}");
     } else {
         println!("cargo::error=no archive at {}", archive.display());
-        println!("cargo::error=build it with `rt staticlib {name}`, or name the folder that has it in {FOLDER}");
+        println!("cargo::error=build it with `tests/archive {name}`, or name the folder that has it in {FOLDER}");
     }
 }

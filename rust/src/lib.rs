@@ -125,8 +125,8 @@
 //!
 //! # Building
 //!
-//! The build script looks for `libhandler_c.a` and `libmessage_c.a` in `../target/staticlib`, where `rt staticlib handler_c` and
-//! `rt staticlib message_c` write them, or in the folder that the environment variable `BLOCK_HANDLER_LIB` names. The archives are for
+//! The build script looks for `libhandler_c.a` and `libmessage_c.a` in `../target/staticlib`, where `tests/archive handler_c` and
+//! `tests/archive message_c` write them, or in the folder that the environment variable `BLOCK_HANDLER_LIB` names. The archives are for
 //! x86-64 Linux.
 
 #![deny(unsafe_code)]
