@@ -8,8 +8,10 @@ pub returns : goal.returns
 unfolding line_text
 returns c =
     let line = put_then c.put_blocks-k.ensures.put (put_then c.put_bytes-k.ensures.put c.put_byte.ensures) in
-    record { put = put_as (put_then c.put_decimal-k.ensures.put (put_then c.put_byte-k.ensures (put_then c.put_name-k.ensures.put line)))
-          (rw (c.kind_number.ensures, c.said-s.ensures)); upper_bound = omega (
+    record {
+      put = put_as (put_then c.put_decimal-k.ensures.put (put_then c.put_byte-k.ensures (put_then c.put_name-k.ensures.put line)))
+          (rw (c.kind_number.ensures, c.said-s.ensures));
+      upper_bound = omega (
         arith,
         c.put_decimal-k.ensures.upper_bound,
         c.put_byte-k.ensures.to,
@@ -17,4 +19,5 @@ returns c =
         c.put_blocks-k.ensures.upper_bound,
         c.put_bytes-k.ensures.upper_bound,
         c.put_byte.ensures.to,
-      ) }
+      );
+    }
