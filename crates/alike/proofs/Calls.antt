@@ -1,4 +1,5 @@
 -- SAME ANSWERS: any call tells the same of two worlds that are alike, and leaves them alike. Assumes nothing.
+use Rattle.refusal.specs.declared.Refusal.TheVariants.{OffLimits, ClockBack, TableFull}
 use Prim.Native.Nat.{ℕ, ◌*◌, ◌≤◌, ◌<◌}
 use mathlib.Core.Bool.{true, not}
 use mathlib.Core.Path.{◌≡◌, refl, sym, ap, ◌∙◌}
@@ -7,6 +8,7 @@ use native.Mathlib.Omega.{arith}
 use lib.ListN.{length}
 use lib.Dec.{leb, ltb}
 use borrow.Author.Tests.{not-false, ltb-false, leb-false, leb-true, eqb-true, eq-eqb}
+use Rattle.refusal.specs.declared.Refusal.{Refusal}
 use Rattle.pieces.specs.Memory.{piece_of}
 use Rattle.pieces.proofs.Tests.{ands, and_both}
 use Rattle.config.specs.declared.Config.{Config}
@@ -69,7 +71,7 @@ module _ (c : Config) (w v : World) (q : Call) (a : Alike c w v) (bytes : WhatBy
   abbrev here : ℕ
   here = place_of c w q
 
-  refused : (n : ℕ) → Same c q (done w (Refused n)) (done v (Refused n))
+  refused : (n : Refusal) → Same c q (done w (Refused n)) (done v (Refused n))
   refused n = (refl, λ _ _. a)
 
   limits-same : within_limits c w q ≡ within_limits c v q
@@ -135,13 +137,13 @@ module _ (c : Config) (w v : World) (q : Call) (a : Alike c w v) (bytes : WhatBy
   same-call : Same c q (call c w q) (call c v q)
   unfolding call
   same-call =
-      both-test (Same c q) (not (within_limits c w q)) (not (within_limits c v q)) (ap not limits-same) (λ _. refused 1)
+      both-test (Same c q) (not (within_limits c w q)) (not (within_limits c v q)) (ap not limits-same) (λ _. refused OffLimits)
       (λ within.
       let ok : within_limits c w q ≡ true = not-false (within_limits c w q) within in
-      both-test (Same c q) (ltb q.time w.table.clock) (ltb q.time v.table.clock) (ap (ltb q.time) a.clock) (λ _. refused 2)
+      both-test (Same c q) (ltb q.time w.table.clock) (ltb q.time v.table.clock) (ap (ltb q.time) a.clock) (λ _. refused ClockBack)
       (λ time.
       let later : w.table.clock ≤ q.time = ltb-false q.time w.table.clock time in
-      both-test (Same c q) (leb 16 here) (leb 16 (place_of c v q)) (ap (leb 16) (place_is later)) (λ _. refused 3)
+      both-test (Same c q) (leb 16 here) (leb 16 (place_of c v q)) (ap (leb 16) (place_is later)) (λ _. refused TableFull)
       (λ room.
       let slot : here < 16 = leb-false 16 here room in
       let state-fits = (opened-fits c w.table q.time fits.table fits.sixteen later q.key (key-within c w q ok) slot).state in

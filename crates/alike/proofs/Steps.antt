@@ -1,5 +1,6 @@
 -- A step from one state on two pairs of pieces that hold the same, as far as the state says that they hold anything: the same state and answer, pieces that again hold the same, and the
 -- same bytes shown. Assumes nothing.
+use Rattle.std.specs.Prelude.{Option, Some, None, Result, Ok, Err}
 use Prim.Native.Nat.{ℕ, ◌+◌, ◌-◌, ◌*◌, ◌≤◌}
 use mathlib.Core.Bool.{Bool, true, false, cond, ◌&&◌}
 use mathlib.Core.Path.{◌≡◌, refl, sym, ap, ◌∙◌}
@@ -9,23 +10,17 @@ use lib.ListN.{length, take, drop, length-append}
 use lib.Seq.{length-take-le}
 use lib.Dec.{ltb, eqb}
 use borrow.Author.Tests.{leb-true}
+use Rattle.refusal.specs.declared.Refusal.{Refusal}
 use Rattle.pieces.specs.Memory.{part, within, piece_of}
 use Rattle.pieces.proofs.Memory.{take_part, drop-part, within-there}
 use Rattle.pieces.proofs.Tests.{ands, by_cases, on_test}
 use Rattle.splicing.specs.Splice.{spliced, spliced_length, splice_of, piece_after}
-use Rattle.splicing.specs.declared.Splice.{Splice}
-use Rattle.splicing.specs.declared.Splice.TheVariants as splice
 use Rattle.splicing.proofs.Splicing.{length-spliced, taken_is}
 use Rattle.block_value.specs.Value.{block_size, block_start}
 use Rattle.block_value.specs.declared.BlockValue.{BlockValue}
 use Rattle.negotiation.specs.Negotiation.{request_block, negotiated}
-use Rattle.negotiation.specs.declared.MaybeBlock.{MaybeBlock}
-use Rattle.negotiation.specs.declared.MaybeBlock.TheVariants.{Absent, Given}
-use Rattle.negotiation.specs.declared.Negotiated.{Negotiated}
-use Rattle.negotiation.specs.declared.Negotiated.TheVariants as agreed
 use Rattle.chunks.specs.Chunk.{chunk_of}
 use Rattle.chunks.specs.declared.Chunk.{Chunk}
-use Rattle.chunks.specs.declared.Chunk.TheVariants as chunk
 use Rattle.chunks.proofs.Laws.{chunk-bounds}
 use Rattle.config.specs.declared.Config.{Config}
 use Rattle.block_state.specs.declared.BlockState.{BlockState}
@@ -118,35 +113,35 @@ module _ (c : Config) (i : ℕ) (payload : List ℕ) where
   -- ---- a request's step
 
   module _ (d d' : List ℕ) where
-    served-like : (s : BlockState) (u u' : List ℕ) (block1 : MaybeBlock) (b : BlockValue) (g : Chunk) → chunk_of b s.cached.payload ≡ g → s.cached.held ≡ true
+    served-like : (s : BlockState) (u u' : List ℕ) (block1 : Option BlockValue) (b : BlockValue) (g : Result Chunk Refusal) → chunk_of b s.cached.payload ≡ g → s.cached.held ≡ true
         → cached_ok c s.cached ≡ true → Holds s u u' d d' → LikeRequest d d' (served (i * c.response) s u block1 g) (served (i * c.response) s u' block1 g)
     unfolding served cached_ok
-    served-like s u u' block1 b (chunk.Refused n) is held ok h = quiet h refl refl
-    served-like s u u' block1 b (chunk.Bytes x from to) is held ok h =
-        let bounds = chunk-bounds b s.cached.payload x from to is in
+    served-like s u u' block1 b (Err n) is held ok h = quiet h refl refl
+    served-like s u u' block1 b (Ok g) is held ok h =
+        let bounds = chunk-bounds b s.cached.payload g.block g.from g.to is in
         let head : ℕ = s.cached.head in
         let n : ℕ = head + s.cached.payload in
         let same : take n d ≡ take n d' = rw held at h.1 in
         let both = rw held at ok in
         let fits : n ≤ c.response = leb-true n c.response (search ands) in
-        like (h.0, kept x.more)
+        like (h.0, kept g.block.more)
         (record {
           body = λ m m' _ _. refl;
           head = λ m m'. shows_same c.response i n 0 head _ _ fits (omega arith) (omega arith) (omega arith) refl m m' d d' same;
-          chunk = λ m m'. shows_same c.response i n (head + from) (head + to) _ _ fits (omega arith) (omega arith) (omega arith) (omega arith) m m' d d' same;
+          chunk = λ m m'. shows_same c.response i n (head + g.from) (head + g.to) _ _ fits (omega arith) (omega arith) (omega arith) (omega arith) m m' d d' same;
         })
       where
         kept : (more : Bool) → take (held_in (kept_while more s.cached)) d ≡ take (held_in (kept_while more s.cached)) d'
         kept true = h.1
         kept false = refl
 
-    onward-like : (s : BlockState) (u u' : List ℕ) (block2 block1 : MaybeBlock) (a : Answer) → cached_ok c s.cached ≡ true → Holds s u u' d d' → Shown a u u' d d'
+    onward-like : (s : BlockState) (u u' : List ℕ) (block2 block1 : Option BlockValue) (a : Answer) → cached_ok c s.cached ≡ true → Holds s u u' d d' → Shown a u u' d d'
         → LikeRequest d d' (onward (i * c.response) s u block2 block1 a) (onward (i * c.response) s u' block2 block1 a)
     unfolding onward
-    onward-like s u u' Absent block1 a ok h shown = like h shown
-    onward-like s u u' (Given x) block1 a ok h shown =
+    onward-like s u u' None block1 a ok h shown = like h shown
+    onward-like s u u' (Some x) block1 a ok h shown =
         both-test (LikeRequest d d') s.cached.held s.cached.held refl
-        (λ held. served-like (with_recorded s (Given x)) u u' block1 x (chunk_of x s.cached.payload) refl held ok h)
+        (λ held. served-like (with_recorded s (Some x)) u u' block1 x (chunk_of x s.cached.payload) refl held ok h)
         (λ _. like h shown)
 
     module _ (s : BlockState) (u u' : List ℕ) (ok : cached_ok c s.cached ≡ true) (inside : s.assembled.len ≤ length u) (h : Holds s u u' d d') where
@@ -174,10 +169,10 @@ module _ (c : Config) (i : ℕ) (payload : List ℕ) where
           rw (← its, ← meets.1) (held_after u body ∙ sym (held_after u' body))
 
       -- what taking a block came to: it fits, and both pieces have it
-      abbrev Both : BlockValue → Taken → Type 0
-      Both b (block.Refused n) = Unit {0}
-      Both b (block.More n) = (n ≤ c.upload) × (take n (after b u) ≡ take n (after b u'))
-      Both b (block.Body n) = (n ≤ c.upload) × (take n (after b u) ≡ take n (after b u'))
+      abbrev Both : BlockValue → Result Taken Refusal → Type 0
+      Both b (Err n) = Unit {0}
+      Both b (Ok (block.More n)) = (n ≤ c.upload) × (take n (after b u) ≡ take n (after b u'))
+      Both b (Ok (block.Body n)) = (n ≤ c.upload) × (take n (after b u) ≡ take n (after b u'))
 
       both-taken : (b : BlockValue) → Both b (taken c s.assembled b (length payload))
       unfolding taken
@@ -185,56 +180,56 @@ module _ (c : Config) (i : ℕ) (payload : List ℕ) where
           on_test (Both b) (c.strict && bad_form b (length payload)) (λ _. tt)
           (λ _. on_test (Both b) (c.strict && not_next s.assembled b) (λ _. tt) (λ _. of (splice_of c.upload (met b) (block_start b) (block_size b) (length payload)) refl b.more))
         where
-          of : (x : Splice) → splice_of c.upload (met b) (block_start b) (block_size b) (length payload) ≡ x → (more : Bool) → Both b (taken_as more x)
-          of (splice.Refused n) e more = tt
-          of (splice.Body n) e more =
+          of : (x : Result ℕ Refusal) → splice_of c.upload (met b) (block_start b) (block_size b) (length payload) ≡ x → (more : Bool) → Both b (taken_as more x)
+          of (Err n) e more = tt
+          of (Ok n) e more =
               let is = taken_is c.upload (met b) (block_start b) (block_size b) (length payload) n e in
-              elim more as (λ m. Both b (taken_as m (splice.Body n))) [
+              elim more as (λ m. Both b (taken_as m (Ok n))) [
                 | true ↦ (is.1, after_same b n is.0)
                 | false ↦ (is.1, after_same b n is.0)
               ]
 
-      taken-like : (block2 : MaybeBlock) (b reply : BlockValue) (t : Taken) → Both b t
+      taken-like : (block2 : Option BlockValue) (b reply : BlockValue) (t : Result Taken Refusal) → Both b t
           → LikeRequest d d'
           (on_taken (i * c.upload) (i * c.response) s (piece_taken c s.assembled u b payload t) block2 b.size_exponent reply t)
           (on_taken (i * c.upload) (i * c.response) s (piece_taken c s.assembled u' b payload t) block2 b.size_exponent reply t)
-      taken-like block2 b reply (block.Refused n) k = quiet h refl refl
-      taken-like block2 b reply (block.More n) k = quiet (k.1, h.1) refl refl
-      taken-like block2 b reply (block.Body n) k =
-          onward-like (with_assembled s (assembly 0 0)) (after b u) (after b u') block2 (Given reply) (Handed reply (bytes_from (i * c.upload) n)) ok (refl, h.1)
+      taken-like block2 b reply (Err n) k = quiet h refl refl
+      taken-like block2 b reply (Ok (block.More n)) k = quiet (k.1, h.1) refl refl
+      taken-like block2 b reply (Ok (block.Body n)) k =
+          onward-like (with_assembled s (assembly 0 0)) (after b u) (after b u') block2 (Some reply) (Handed reply (bytes_from (i * c.upload) n)) ok (refl, h.1)
           (record {
             body = λ m m'. shows_same c.upload i n 0 n _ _ k.0 (omega arith) (omega arith) (omega arith) refl m m' (after b u) (after b u') k.1;
             head = λ m m' _ _. refl;
             chunk = λ m m' _ _. refl;
           })
 
-      negotiated-like : (block2 block1 : MaybeBlock) (g : Negotiated)
+      negotiated-like : (block2 block1 : Option BlockValue) (g : Result (Option BlockValue) Refusal)
           → LikeRequest d d' (on_negotiated c (i * c.upload) (i * c.response) s u block2 payload block1 g) (on_negotiated c (i * c.upload) (i * c.response) s u' block2 payload block1 g)
       unfolding on_negotiated block1_given
-      negotiated-like block2 block1 (agreed.Refused n) = quiet h refl refl
-      negotiated-like block2 block1 agreed.NoBlock = onward-like s u u' block2 Absent Pass ok h (quiet-shown refl refl)
-      negotiated-like block2 Absent (agreed.Block reply) = quiet h refl refl
-      negotiated-like block2 (Given b) (agreed.Block reply) = taken-like block2 b reply (taken c s.assembled b (length payload)) (both-taken b)
+      negotiated-like block2 block1 (Err n) = quiet h refl refl
+      negotiated-like block2 block1 (Ok None) = onward-like s u u' block2 None Pass ok h (quiet-shown refl refl)
+      negotiated-like block2 None (Ok (Some reply)) = quiet h refl refl
+      negotiated-like block2 (Some b) (Ok (Some reply)) = taken-like block2 b reply (taken c s.assembled b (length payload)) (both-taken b)
 
   -- ---- a response's step
 
   module _ (s : BlockState) (u u' d d' : List ℕ) (h : Holds s u u' d d') where
-    chunked-like : (head : List ℕ) (g : Chunk) → LikeResponse u u' (chunked c s d head payload g) (chunked c s d' head payload g)
+    chunked-like : (head : List ℕ) (g : Result Chunk Refusal) → LikeResponse u u' (chunked c s d head payload g) (chunked c s d' head payload g)
     unfolding chunked
-    chunked-like head (chunk.Refused n) = quiet h refl refl
-    chunked-like head (chunk.Bytes b from to) =
+    chunked-like head (Err n) = quiet h refl refl
+    chunked-like head (Ok g) =
         let all : List ℕ = head ++ payload in
         let long : length head + length payload ≡ length all = sym (length-append head payload) in
-        both-test (LikeResponse u u') b.more b.more refl
+        both-test (LikeResponse u u') g.block.more g.block.more refl
         (λ _. both-test (LikeResponse u u') (ltb c.response (length head + length payload)) (ltb c.response (length head + length payload)) refl (λ _. quiet h refl refl)
         (λ _. quiet (h.0, rw long (held_after d all ∙ sym (held_after d' all))) refl refl))
         (λ _. quiet h refl refl)
 
-    reply-like : (head : List ℕ) (g : Negotiated) → LikeResponse u u' (on_reply c s d head payload g) (on_reply c s d' head payload g)
+    reply-like : (head : List ℕ) (g : Result (Option BlockValue) Refusal) → LikeResponse u u' (on_reply c s d head payload g) (on_reply c s d' head payload g)
     unfolding on_reply
-    reply-like head (agreed.Refused n) = quiet h refl refl
-    reply-like head agreed.NoBlock = quiet h refl refl
-    reply-like head (agreed.Block b) = chunked-like head (chunk_of b (length payload))
+    reply-like head (Err n) = quiet h refl refl
+    reply-like head (Ok None) = quiet h refl refl
+    reply-like head (Ok (Some b)) = chunked-like head (chunk_of b (length payload))
 
 -- A REQUEST'S STEP
 pub request-like : (c : Config) (i : ℕ) (s : BlockState) (u u' d d' : List ℕ) (r : Request) → StateFits c s → length u ≡ c.upload → Holds s u u' d d'

@@ -1,4 +1,4 @@
-// Where the bytes stand that an answer shows, by its number and the part that it names.
+// Where the bytes stand that an answer shows, by its number and the part that it names: a number, since a reply that C hands back may hold any.
 ghost use Rattle.std.specs.Prelude.{◌≡◌};
 ghost use Rattle.answer_sources.specs.Parts.{source_if, body_source, served_source, sent_source};
 

@@ -6,11 +6,12 @@ use native.Mathlib.Omega.{arith}
 use lib.Dec.{leb}
 use lib.ListN.{length, length-take, length-drop}
 use Rattle.pieces.specs.Memory.{part, within}
-use Rattle.pieces.proofs.Tests.{on_test}
+use Rattle.block_state.specs.declared.Kind.{Kind}
+use Rattle.block_state.specs.declared.Kind.TheVariants.{Continue, TooLarge, Handed, Pass, Served, Plain, Whole, First, Refused}
 use Rattle.block_state.specs.declared.Part.{Part}
 use Rattle.block_state.specs.declared.Answer.{Answer}
-use Rattle.apart.specs.Answers.{handed, pass, served, said}
-use Rattle.answer_sources.specs.Parts.{is, number_of, part_of}
+use Rattle.apart.specs.Answers.{said}
+use Rattle.answer_sources.specs.Parts.{part_of}
 use Rattle.answer_text.specs.Shown.{shown_by, shown_of}
 
 part-short : (m : List ℕ) (p : Part) → length (part_of m p) ≤ length m
@@ -25,10 +26,15 @@ abbrev Short : ℕ → List ℕ → Type 0
 Short k l = length l ≤ k
 
 pub shown-short : (a : Answer) (payload upload away : List ℕ) (k : ℕ) → Short k payload → Short k upload → Short k away → Short k (shown_of a payload upload away)
-unfolding shown_by
-shown-short a payload upload away k h i j =
-    let n = number_of a in
-    let p = (said a).part in
-    on_test (Short k) (is pass n) (λ _. h)
-    (λ _. on_test (Short k) (is handed n) (λ _. omega (arith, part-short upload p))
-    (λ _. on_test (Short k) (is served n) (λ _. omega (arith, part-short away p)) (λ _. omega (arith, part-short payload p))))
+shown-short a payload upload away k h i j = go (said a).kind
+  where
+    go : (kind : Kind) → Short k (shown_by kind (said a).part payload upload away)
+    go Pass = h
+    go Handed = omega (arith, part-short upload (said a).part)
+    go Served = omega (arith, part-short away (said a).part)
+    go Whole = omega (arith, part-short payload (said a).part)
+    go First = omega (arith, part-short payload (said a).part)
+    go Continue = omega (arith, part-short payload (said a).part)
+    go TooLarge = omega (arith, part-short payload (said a).part)
+    go Plain = omega (arith, part-short payload (said a).part)
+    go Refused = omega (arith, part-short payload (said a).part)

@@ -12,7 +12,7 @@ fn bytes_of<'a>(source: Source, message: &'a [u8], memory: &'a [u8]) -> &'a [u8]
     ensures { result.now ≡ bytes_of source message.now memory.now }
 {
     match source {
-        Source::Nothing => &message[0..0],
+        Source::Nothing => &[],
         Source::Message => message,
         Source::Within(part) => pieces::within(memory, part.from, part.to),
     }

@@ -1,12 +1,14 @@
 -- What each answer says, in document 01's numbers and values, and the parts that it names. The promises use it.
-use Rattle.std.specs.Prelude.{ℕ, ◌+◌, ◌*◌, cond, ◌||◌, eqb}
-use Rattle.negotiation.specs.declared.MaybeBlock.{MaybeBlock}
-use Rattle.negotiation.specs.declared.MaybeBlock.TheVariants.{Absent, Given}
+use Rattle.std.specs.Prelude.{ℕ, ◌+◌, ◌*◌, cond, ◌||◌, eqb, Option, Some, None}
+use Rattle.block_value.specs.declared.BlockValue.{BlockValue}
 use Rattle.block_state.specs.declared.Part.{Part}
 use Rattle.block_state.specs.declared.Said.{Said}
 use Rattle.block_state.specs.declared.Kind.{Kind}
 use Rattle.block_state.specs.declared.Kind.TheVariants as kind
 use Rattle.block_state.specs.declared.Answer.{Answer}
+use Rattle.refusal.specs.Numbers.{refusal_number}
+use Rattle.refusal.specs.declared.Refusal.{Refusal}
+use Rattle.refusal.specs.declared.Refusal.TheVariants.{PastTheEnd, NotNext, BadForm}
 use Rattle.block_state.specs.declared.Answer.TheVariants.{Continue, TooLarge, Handed, Pass, Served, Plain, Whole, First, Refused}
 
 -- The nine answers, by document 01's names.
@@ -59,25 +61,28 @@ of_its_own = 0
 
 -- 9 is 4.08 and 10 is 4.00, as document 01 says; 8 is the Rust's bad request, 4.00; 4, 5 and 6 are its internal
 -- error, 5.00 (so is a 5 where the Rust panics), and so are the others, which it has not.
-abbrev pub refusal_code : ℕ → ℕ
-refusal_code n = cond (eqb n 9) (coap_code 4 8) (cond (eqb n 10 || eqb n 8) (coap_code 4 0) (coap_code 5 0))
+abbrev pub refusal_code : Refusal → ℕ
+refusal_code NotNext = coap_code 4 8
+refusal_code BadForm = coap_code 4 0
+refusal_code PastTheEnd = coap_code 4 0
+refusal_code other = coap_code 5 0
 
 -- The part of an answer that names none.
 abbrev pub nowhere : Part
 nowhere = record { from = 0; to = 0 }
 
-abbrev pub saying : Kind → ℕ → MaybeBlock → MaybeBlock → ℕ → Part → Part → Said
+abbrev pub saying : Kind → ℕ → Option BlockValue → Option BlockValue → ℕ → Part → Part → Said
 saying kind number block1 block2 code part head =
     record { kind = kind; number = number; block1 = block1; block2 = block2; code = code; part = part; head = head }
 
 -- The kind, a refusal's number (else 0), the two block values to send, the response code, the body or the chunk, and the cached head.
 abbrev pub said : Answer → Said
-said (Continue b) = saying continue 0 (Given b) Absent (coap_code 2 31) nowhere nowhere
-said (TooLarge b) = saying too_large 0 (Given b) Absent (coap_code 4 13) nowhere nowhere
-said (Handed b body) = saying handed 0 (Given b) Absent of_its_own body nowhere
-said Pass = saying pass 0 Absent Absent of_its_own nowhere nowhere
-said (Served s) = saying served 0 s.block1 (Given s.block2) of_its_own s.chunk s.head
-said Plain = saying plain 0 Absent Absent of_its_own nowhere nowhere
-said (Whole b chunk) = saying whole 0 Absent (Given b) of_its_own chunk nowhere
-said (First b chunk) = saying first 0 Absent (Given b) of_its_own chunk nowhere
-said (Refused n) = saying refusal n Absent Absent (refusal_code n) nowhere nowhere
+said (Continue b) = saying continue 0 (Some b) None (coap_code 2 31) nowhere nowhere
+said (TooLarge b) = saying too_large 0 (Some b) None (coap_code 4 13) nowhere nowhere
+said (Handed b body) = saying handed 0 (Some b) None of_its_own body nowhere
+said Pass = saying pass 0 None None of_its_own nowhere nowhere
+said (Served s) = saying served 0 s.block1 (Some s.block2) of_its_own s.chunk s.head
+said Plain = saying plain 0 None None of_its_own nowhere nowhere
+said (Whole b chunk) = saying whole 0 None (Some b) of_its_own chunk nowhere
+said (First b chunk) = saying first 0 None (Some b) of_its_own chunk nowhere
+said (Refused n) = saying refusal (refusal_number n) None None (refusal_code n) nowhere nowhere

@@ -5,7 +5,8 @@ ghost use Rattle.std.specs.Prelude.{◌≡◌};
 ghost use Rattle.apart.specs.Answers.{kind_number, nowhere, of_its_own, refusal_code, said, saying};
 
 use block_state::{Answer, Kind, Part, Said, Served};
-use negotiation::MaybeBlock;
+use block_value::BlockValue;
+use refusal::Refusal;
 
 pub fn kind_number(kind: Kind) -> u8
     ensures { result ≡ kind_number kind }
@@ -34,29 +35,27 @@ const TOO_LARGE: u8 = 141;
 
 const INTERNAL_ERROR: u8 = 160;
 
-fn refusal_code(n: u8) -> u8
-    ensures { result ≡ refusal_code n }
+fn refusal_code(why: Refusal) -> u8
+    ensures { result ≡ refusal_code why }
 {
-    if n == 9 {
-        return INCOMPLETE;
+    match why {
+        Refusal::NotNext => INCOMPLETE,
+        Refusal::BadForm | Refusal::PastTheEnd => BAD_REQUEST,
+        _ => INTERNAL_ERROR,
     }
-    if (n == 10) | (n == 8) {
-        return BAD_REQUEST;
-    }
-    INTERNAL_ERROR
 }
 
 const NOWHERE: Part = Part { from: 0, to: 0 };
 
 // An answer to a request.
-fn asked(kind: Kind, block1: MaybeBlock, code: u8, part: Part) -> Said
-    ensures { result ≡ saying kind 0 block1 MaybeBlock.Absent code part nowhere }
+fn asked(kind: Kind, block1: Option<BlockValue>, code: u8, part: Part) -> Said
+    ensures { result ≡ saying kind 0 block1 None code part nowhere }
 {
     Said {
         kind,
         number: 0,
         block1,
-        block2: MaybeBlock::Absent,
+        block2: None,
         code,
         part,
         head: NOWHERE,
@@ -64,13 +63,13 @@ fn asked(kind: Kind, block1: MaybeBlock, code: u8, part: Part) -> Said
 }
 
 // An answer to a response.
-fn sent(kind: Kind, block2: MaybeBlock, part: Part) -> Said
-    ensures { result ≡ saying kind 0 MaybeBlock.Absent block2 of_its_own part nowhere }
+fn sent(kind: Kind, block2: Option<BlockValue>, part: Part) -> Said
+    ensures { result ≡ saying kind 0 None block2 of_its_own part nowhere }
 {
     Said {
         kind,
         number: 0,
-        block1: MaybeBlock::Absent,
+        block1: None,
         block2,
         code: 0,
         part,
@@ -89,22 +88,22 @@ fn served(s: Served) -> Said
         kind: Kind::Served,
         number: 0,
         block1,
-        block2: MaybeBlock::Given(block2),
+        block2: Some(block2),
         code: 0,
         part,
         head,
     }
 }
 
-fn refused(n: u8) -> Said
-    ensures { result ≡ said (Answer.Refused n) }
+fn refused(why: Refusal) -> Said
+    ensures { result ≡ said (Answer.Refused why) }
 {
     Said {
         kind: Kind::Refused,
-        number: n,
-        block1: MaybeBlock::Absent,
-        block2: MaybeBlock::Absent,
-        code: refusal_code(n),
+        number: why.number(),
+        block1: None,
+        block2: None,
+        code: refusal_code(why),
         part: NOWHERE,
         head: NOWHERE,
     }
@@ -113,16 +112,15 @@ fn refused(n: u8) -> Said
 pub fn said(answer: Answer) -> Said
     ensures { result ≡ said answer }
 {
-    let no = MaybeBlock::Absent;
     match answer {
-        Answer::Continue(b) => asked(Kind::Continue, MaybeBlock::Given(b), CONTINUE, NOWHERE),
-        Answer::TooLarge(b) => asked(Kind::TooLarge, MaybeBlock::Given(b), TOO_LARGE, NOWHERE),
-        Answer::Handed(b, body) => asked(Kind::Handed, MaybeBlock::Given(b), 0, body),
-        Answer::Pass => asked(Kind::Pass, no, 0, NOWHERE),
+        Answer::Continue(b) => asked(Kind::Continue, Some(b), CONTINUE, NOWHERE),
+        Answer::TooLarge(b) => asked(Kind::TooLarge, Some(b), TOO_LARGE, NOWHERE),
+        Answer::Handed(b, body) => asked(Kind::Handed, Some(b), 0, body),
+        Answer::Pass => asked(Kind::Pass, None, 0, NOWHERE),
         Answer::Served(s) => served(s),
-        Answer::Plain => sent(Kind::Plain, no, NOWHERE),
-        Answer::Whole(b, chunk) => sent(Kind::Whole, MaybeBlock::Given(b), chunk),
-        Answer::First(b, chunk) => sent(Kind::First, MaybeBlock::Given(b), chunk),
-        Answer::Refused(n) => refused(n),
+        Answer::Plain => sent(Kind::Plain, None, NOWHERE),
+        Answer::Whole(b, chunk) => sent(Kind::Whole, Some(b), chunk),
+        Answer::First(b, chunk) => sent(Kind::First, Some(b), chunk),
+        Answer::Refused(why) => refused(why),
     }
 }

@@ -6,8 +6,8 @@ use native.Mathlib.Nat.{pow-suc, pow-le-pow_right, div-add-mod', div-lt_iff_lt-m
 use native.Mathlib.Omega.{arith}
 use lib.ListN.{length, set, take, drop, length-append}
 use lib.Seq.{take_at, drop_at, drop-drop}
-use Rattle.pieces.specs.Memory.{part, patch}
-use Rattle.pieces.proofs.Memory.{take_part, drop-part, patch-front, set-patch}
+use Rattle.pieces.specs.Memory.{part, patch, Put}
+use Rattle.pieces.proofs.Memory.{patch-none, patch-front, set-patch}
 use Rattle.block_option.specs.Uint.{uint}
 use Rattle.block_option.proofs.Laws.{uint-snoc, Upto}
 use Rattle.big_endian.specs.Numbers.{in_bytes, number_at}
@@ -38,22 +38,28 @@ pub number-here : (l rest : List ℕ) (at k n : ℕ) → drop at l ≡ in_bytes 
 unfolding number_at
 number-here l rest at k n e h = ap uint (part-here l (in_bytes k n) rest at k e (length-bytes k n)) ∙ uint-bytes k n h
 
--- a number that stands within a part
-pub number-part : (l : List ℕ) (at n j k : ℕ) → j + k ≤ n → at + n ≤ length l → number_at (part l at n) j k ≡ number_at l (at + j) k
-unfolding number_at part
-number-part l at n j k h f =
-    ap uint (ap (take k) (drop-part l at n j (omega arith) f) ∙ take_part l (at + j) (n - j) k (omega arith))
-
 -- ---- the loops
 
--- the last of the bytes that are left is stored
-pub put-turn : (m : List ℕ) (at j n : ℕ) → at + j < length m → patch (set m (at + j) (n % 256)) at (in_bytes j (n / 256)) ≡ patch m at (in_bytes (suc j) n)
+-- the last of the i bytes that are left is stored
+pub put_turn : (m : List ℕ) (at i n : ℕ) → 0 < i → at + i ≤ length m → patch (set m (at + (i - 1)) (n % 256)) at (in_bytes (i - 1) (n / 256)) ≡ patch m at (in_bytes i n)
 unfolding in_bytes
-put-turn m at j n h =
+put_turn m at zero n h k = absurd (omega arith)
+put_turn m at (suc j) n h k =
     let b : List ℕ = in_bytes j (n / 256) in
     let long : length b ≡ j = length-bytes j (n / 256) in
-    ap (λ (l : List ℕ). patch l at b) (set-patch m (at + j) (n % 256) h ∙ ap (λ (k : ℕ). patch m (at + k) (n % 256 ∷ [])) (sym long))
-    ∙ patch-front m at b (n % 256 ∷ []) (omega arith)
+    let last : suc j - 1 ≡ j = omega arith in
+    rw last
+    (ap (λ (l : List ℕ). patch l at b) (set-patch m (at + j) (n % 256) (omega arith) ∙ ap (λ (k : ℕ). patch m (at + k) (n % 256 ∷ [])) (sym long))
+    ∙ patch-front m at b (n % 256 ∷ []) (omega arith))
+
+-- and none is left
+pub put_done : (m : List ℕ) (at k n : ℕ) (out : List ℕ) (i left : ℕ)
+    → at + k ≤ length m → patch out at (in_bytes i left) ≡ patch m at (in_bytes k n) → i ≤ 0 → Put m at (in_bytes k n) out (at + k)
+unfolding in_bytes
+put_done m at k n out zero left h e z =
+    let long : length (in_bytes k n) ≡ k = length-bytes k n in
+    record { room = omega arith; is = sym (patch-none out at) ∙ e; to = omega arith }
+put_done m at k n out (suc i) left h e z = absurd (omega arith)
 
 -- what is read of eight bytes at most leaves room for another
 pub upto-room : (l : List ℕ) (v i : ℕ) → Upto l v i → i < 8 → v < 2 ^ 56

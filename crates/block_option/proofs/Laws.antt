@@ -1,4 +1,5 @@
 -- The laws of an option's bytes: what they spell, and the cases of read and write. Assumes nothing.
+use Rattle.std.specs.Prelude.{Some, None}
 use mathlib.Core.Path.{◌≡◌, refl, sym, ap, ◌∙◌}
 use mathlib.Core.Bool.{Bool, true, false}
 use mathlib.Core.List.{List, [], ◌∷◌, ◌++◌}
@@ -15,7 +16,6 @@ use Rattle.config.proofs.Mode.{nums-bytes}
 use Rattle.block_value.specs.declared.BlockValue.{BlockValue}
 use Rattle.block_option.specs.Uint.{uint, Bytes, shortest}
 use Rattle.block_option.specs.Option.{unpacked, read_of}
-use Rattle.block_option.specs.declared.Reading.TheVariants.{Value, Unreadable}
 
 -- ---- what bytes spell
 
@@ -70,30 +70,30 @@ uint-below (b ∷ l) h =
 -- ---- read, by the option's length
 
 module _ (strict : Bool) (option : List ℕ) where
-  pub read-few : length option ≤ byte_limit strict → read_of strict option ≡ Value (unpacked (uint option))
+  pub read-few : length option ≤ byte_limit strict → read_of strict option ≡ Some (unpacked (uint option))
   unfolding read_of
   read-few h = rw (le-ltb (byte_limit strict) (length option) h)
 
-  pub read-long : byte_limit strict < length option → read_of strict option ≡ Unreadable
+  pub read-long : byte_limit strict < length option → read_of strict option ≡ None
   unfolding read_of
   read-long h = rw (lt-ltb (byte_limit strict) (length option) h)
 
   -- what was read is what the bytes spell
-  read_is : (b : BlockValue) → read_of strict option ≡ Value b → (length option ≤ byte_limit strict) × (b ≡ unpacked (uint option))
+  read_is : (b : BlockValue) → read_of strict option ≡ Some b → (length option ≤ byte_limit strict) × (b ≡ unpacked (uint option))
   read_is b e = go (ltb (byte_limit strict) (length option)) refl
     where
       go : (long : Bool) → ltb (byte_limit strict) (length option) ≡ long → (length option ≤ byte_limit strict) × (b ≡ unpacked (uint option))
-      go true l = let no : Unreadable ≡ Value b = sym (read-long (ltb-true _ _ l)) ∙ e in let z : ◌≡◌ {A = ℕ} 0 1 = cc in absurd (omega arith)
+      go true l = let no : None ≡ Some b = sym (read-long (ltb-true _ _ l)) ∙ e in let z : ◌≡◌ {A = ℕ} 0 1 = cc in absurd (omega arith)
       go false l =
           let few = ltb-false (byte_limit strict) (length option) l in
-          let same : Value (unpacked (uint option)) ≡ Value b = sym (read-few few) ∙ e in
+          let same : Some (unpacked (uint option)) ≡ Some b = sym (read-few few) ∙ e in
           let is : b ≡ unpacked (uint option) = cc in
           (few, is)
 
-  pub read-exponent : (b : BlockValue) → read_of strict option ≡ Value b → b.size_exponent ≤ 7
+  pub read-exponent : (b : BlockValue) → read_of strict option ≡ Some b → b.size_exponent ≤ 7
   read-exponent b e = rw (read_is b e).1 (omega arith)
 
-  pub read-num : (b : BlockValue) → Bytes option → read_of strict option ≡ Value b → b.num < nums strict
+  pub read-num : (b : BlockValue) → Bytes option → read_of strict option ≡ Some b → b.num < nums strict
   read-num b h e =
       let told = read_is b e in
       let wide : 256 ^ length option ≤ 256 ^ byte_limit strict = pow-le-pow_right (omega arith) told.0 in

@@ -1,4 +1,5 @@
 -- Document 01's block value against RFC 7959's: what is read and written means what the RFC says. Proved once, over the width of an option. Assumes nothing.
+use Rattle.std.specs.Prelude.{Some}
 use mathlib.Core.Path.{◌≡◌, refl, sym, ◌∙◌}
 use mathlib.Core.Bool.{Bool, true, false, cond}
 use mathlib.Core.List.{List, [], ◌∷◌, ◌++◌}
@@ -15,7 +16,6 @@ use Rattle.block_value.specs.declared.BlockValue.{BlockValue}
 use Rattle.block_option.specs.Uint.{uint, Bytes, shortest}
 use Rattle.block_option.specs.Option.{unpacked, read_of, packed, written, in_three}
 use Rattle.block_option.specs.Rfc7959.{Holds, HoldsBlock, Fewest, AsTheRfc, BothModes}
-use Rattle.block_option.specs.declared.Reading.TheVariants.{Value}
 use Rattle.block_option.proofs.Laws.{uint-snoc, uint-below, read-few, read-long, read-num}
 
 -- ---- the shortest form, of at most `most` bytes
@@ -102,15 +102,15 @@ module _ (strict : Bool) where
   abbrev most : ℕ
   most = byte_limit strict
 
-  read-holds : (option : List ℕ) → Bytes option → length option ≤ most → (b : BlockValue) × (read_of strict option ≡ Value b) × HoldsBlock option b × (b.num ≤ nums strict - 1)
+  read-holds : (option : List ℕ) → Bytes option → length option ≤ most → (b : BlockValue) × (read_of strict option ≡ Some b) × HoldsBlock option b × (b.num ≤ nums strict - 1)
   read-holds option b h =
       let is = read-few strict option h in
       (unpacked (uint option), is, unpacked-holds option b (omega (arith, bytes_most strict)), omega (arith, read-num strict option _ b is))
 
-  read_held : (option : List ℕ) → length option ≤ most → (b : BlockValue) → HoldsBlock option b → read_of strict option ≡ Value b
+  read_held : (option : List ℕ) → length option ≤ most → (b : BlockValue) → HoldsBlock option b → read_of strict option ≡ Some b
   read_held option h b holds =
       let same = holds-one option _ b.num _ b.more _ b.size_exponent (unpacked-holds option holds.bytes holds.few) holds in
-      read-few strict option h ∙ (λ i. Value (record { num = same.0 i; more = same.1 i; size_exponent = same.2 i }))
+      read-few strict option h ∙ (λ i. Some (record { num = same.0 i; more = same.1 i; size_exponent = same.2 i }))
 
   -- ---- write
 
@@ -131,7 +131,7 @@ module _ (strict : Bool) where
     three : packed strict b < 256 ^ 3
     three = let wide : 256 ^ most ≤ 256 ^ 3 = pow-le-pow_right (omega arith) (bytes_most strict) in omega (arith, packed-below)
 
-    write-holds : HoldsBlock (written strict b) b × Fewest (written strict b) × (length (written strict b) ≤ most) × (read_of strict (written strict b) ≡ Value b)
+    write-holds : HoldsBlock (written strict b) b × Fewest (written strict b) × (length (written strict b) ≤ most) × (read_of strict (written strict b) ≡ Some b)
     write-holds =
         let short : length (written strict b) ≤ most = takes 3 most (packed strict b) packed-below in
         let holds : HoldsBlock (written strict b) b =

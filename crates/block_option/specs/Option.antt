@@ -1,10 +1,8 @@
 -- Document 01, "Block value": what read and write come to, on lists of bytes. Both take the mode, which says how many bytes an option may have, and so which nums it can hold
 -- (document 02).
-use Rattle.std.specs.Prelude.{ℕ, ◌+◌, ◌*◌, ◌/◌, ◌%◌, Bool, cond, List, [], ◌∷◌, ◌++◌, ltb, eqb, length, take}
+use Rattle.std.specs.Prelude.{ℕ, ◌+◌, ◌*◌, ◌/◌, ◌%◌, Bool, cond, List, [], ◌∷◌, ◌++◌, ltb, eqb, length, take, Option, Some, None}
 use Rattle.config.specs.Mode.{byte_limit, nums}
 use Rattle.block_value.specs.declared.BlockValue.{BlockValue}
-use Rattle.block_option.specs.declared.Reading.{Reading}
-use Rattle.block_option.specs.declared.Reading.TheVariants.{Value, Unreadable}
 use Rattle.block_option.specs.declared.Written.{Written}
 use Rattle.block_option.specs.Uint.{uint, shortest}
 
@@ -13,8 +11,8 @@ abbrev pub unpacked : ℕ → BlockValue
 unpacked scalar = record { num = scalar / 16; more = eqb (scalar / 8 % 2) 1; size_exponent = scalar % 8 }
 
 -- "An option of at most 2 bytes", or as many as the mode allows, "big-endian, empty meaning 0. .. A longer option is unreadable."
-unfoldable pub read_of : Bool → List ℕ → Reading
-read_of strict option = cond (ltb (byte_limit strict) (length option)) Unreadable (Value (unpacked (uint option)))
+unfoldable pub read_of : Bool → List ℕ → Option BlockValue
+read_of strict option = cond (ltb (byte_limit strict) (length option)) None (Some (unpacked (uint option)))
 
 -- "Num*16 + 8 if more + exponent, num taken modulo 4096", and in strict mode, by the same rule, modulo 1,048,576. Of an exponent above 7, which neither make nor read gives,
 -- the low three bits count.

@@ -1,8 +1,7 @@
 -- RFC 7959's own account of a Block option, apart from document 01's: an unsigned integer of 0 to 3 bytes that holds NUM, M and SZX. And what each mode keeps of it.
-use Rattle.std.specs.Prelude.{ℕ, ◌+◌, ◌*◌, ◌^◌, ◌≤◌, ◌<◌, Bool, true, false, cond, ◌≡◌, List, length}
+use Rattle.std.specs.Prelude.{ℕ, ◌+◌, ◌*◌, ◌^◌, ◌≤◌, ◌<◌, Bool, true, false, cond, ◌≡◌, List, length, Some, None}
 use Rattle.block_value.specs.Value.{size_of}
 use Rattle.block_value.specs.declared.BlockValue.{BlockValue}
-use Rattle.block_option.specs.declared.Reading.TheVariants.{Value, Unreadable}
 use Rattle.block_option.specs.Uint.{uint, Bytes}
 use Rattle.block_option.specs.Option.{read_of, written}
 
@@ -29,13 +28,13 @@ HoldsBlock option b = Holds option b.num b.more b.size_exponent
 -- a difference, which is listed.)
 pub record AsTheRfc (strict : Bool) (most last : ℕ) : Type 0 where
   -- Such an option is read, whether or not it is the shortest form, and as what it holds: it holds one value and no other.
-  pub read : (option : List ℕ) → Bytes option → length option ≤ most → (b : BlockValue) × (read_of strict option ≡ Value b) × HoldsBlock option b × (b.num ≤ last)
-  pub one : (option : List ℕ) → length option ≤ most → (b : BlockValue) → HoldsBlock option b → read_of strict option ≡ Value b
+  pub read : (option : List ℕ) → Bytes option → length option ≤ most → (b : BlockValue) × (read_of strict option ≡ Some b) × HoldsBlock option b × (b.num ≤ last)
+  pub one : (option : List ℕ) → length option ≤ most → (b : BlockValue) → HoldsBlock option b → read_of strict option ≡ Some b
   -- A longer one is not.
-  pub unread : (option : List ℕ) → most < length option → read_of strict option ≡ Unreadable
+  pub unread : (option : List ℕ) → most < length option → read_of strict option ≡ None
   -- What is written is the shortest form, which holds the value and is read as it.
   pub write : (b : BlockValue) → b.num ≤ last → b.size_exponent ≤ 7
-      → HoldsBlock (written strict b) b × Fewest (written strict b) × (length (written strict b) ≤ most) × (read_of strict (written strict b) ≡ Value b)
+      → HoldsBlock (written strict b) b × Fewest (written strict b) × (length (written strict b) ≤ most) × (read_of strict (written strict b) ≡ Some b)
 
 -- Strict mode keeps the RFC's layout whole: 3 bytes, and a num of 20 bits. Plain mode keeps two bytes, and 12 bits. And for SZX 0 to 6 the size is the RFC's.
 pub record BothModes : Type 0 where

@@ -8,13 +8,6 @@ ghost use Rattle.block_option.specs.Option.{unpacked, read_of, packed, written, 
 
 use block_value::BlockValue;
 
-// What read answers.
-#[derive(Clone, Copy)]
-pub enum Reading {
-    Value(BlockValue),
-    Unreadable,
-}
-
 // An option's bytes: the first len of them; the others are 0.
 #[repr(C)]
 #[derive(Clone, Copy)]
@@ -39,21 +32,20 @@ fn scalar_of(option: &[u8]) -> u32
     ensures { result ≡ uint option.now }
 {
     let mut scalar: u32 = 0;
-    let mut i: usize = 0;
-    while i < option.len() {
-        scalar = scalar * 256 + wide::u32_of_u8(option[i]);
-        i += 1;
+    for byte in option {
+        scalar = scalar * 256 + u32::from(*byte);
     }
     scalar
 }
 
-pub fn read(strict: bool, option: &[u8]) -> Reading
+// None where the option cannot be read.
+pub fn read(strict: bool, option: &[u8]) -> Option<BlockValue>
     ensures { result ≡ read_of strict option.now }
 {
     if config::byte_limit(strict) < option.len() {
-        return Reading::Unreadable;
+        return None;
     }
-    Reading::Value(unpack(scalar_of(option)))
+    Some(unpack(scalar_of(option)))
 }
 
 // The num as far as an option of the mode can hold it.
@@ -67,7 +59,7 @@ fn pack(strict: bool, block: BlockValue) -> u32
     ensures { (result ≡ packed strict block) × (result < 2 ^ 24) }
 {
     let num = kept_num(strict, block.num);
-    let exponent = wide::u32_of_u8(block.size_exponent % 8);
+    let exponent = u32::from(block.size_exponent % 8);
     if block.more {
         return num * 16 + 8 + exponent;
     }

@@ -1,12 +1,12 @@
 -- The limits of a state by its parts: a state is within them exactly if each part is, and so are the parts that the steps make. Assumes nothing.
+use Rattle.std.specs.Prelude.{Option, Some, None}
 use Prim.Native.Nat.{ℕ, ◌+◌, ◌≤◌}
 use mathlib.Core.Bool.{Bool, true, false, cond, not, ◌&&◌}
 use mathlib.Core.Path.{◌≡◌, refl}
 use native.Mathlib.Omega.{arith}
 use lib.Dec.{leb, eqb}
 use borrow.Author.Tests.{leb-true, le-leb}
-use Rattle.negotiation.specs.declared.MaybeBlock.{MaybeBlock}
-use Rattle.negotiation.specs.declared.MaybeBlock.TheVariants.{Absent, Given}
+use Rattle.block_value.specs.declared.BlockValue.{BlockValue}
 use Rattle.config.specs.declared.Config.{Config}
 use Rattle.block_state.specs.declared.Assembled.{Assembled}
 use Rattle.block_state.specs.declared.Cached.{Cached}
@@ -63,14 +63,14 @@ caching-ok c head payload h f =
 -- ---- the recorded value
 
 -- a value with a num of at most this, and a known exponent
-abbrev pub Held : ℕ → MaybeBlock → Type 0
-Held most Absent = Unit {0}
-Held most (Given b) = (b.num ≤ most) × (b.size_exponent ≤ 7)
+abbrev pub Held : ℕ → Option BlockValue → Type 0
+Held most None = Unit {0}
+Held most (Some b) = (b.num ≤ most) × (b.size_exponent ≤ 7)
 
-pub recording-ok : (most : ℕ) (b : MaybeBlock) → most ≤ 1048575 → Held most b → recorded_ok (recording b) ≡ true
+pub recording-ok : (most : ℕ) (b : Option BlockValue) → most ≤ 1048575 → Held most b → recorded_ok (recording b) ≡ true
 unfolding recorded_ok
-recording-ok most Absent m h = refl
-recording-ok most (Given b) m h =
+recording-ok most None m h = refl
+recording-ok most (Some b) m h =
     and_both (leb b.num 1048575) (leb b.size_exponent 7) (le-leb b.num 1048575 (omega (arith, h.0))) (le-leb b.size_exponent 7 h.1)
 
 pub recorded-held : (r : Recorded) → recorded_ok r ≡ true → Held 1048575 (recorded_block r)
@@ -78,14 +78,14 @@ unfolding recorded_ok
 recorded-held r e = go r.given e
   where
     go : (g : Bool) → cond g (leb r.num 1048575 && leb r.exponent 7) (eqb r.num 0 && not r.more && eqb r.exponent 0) ≡ true
-        → Held 1048575 (cond g (Given (record { num = r.num; more = r.more; size_exponent = r.exponent })) Absent)
+        → Held 1048575 (cond g (Some (record { num = r.num; more = r.more; size_exponent = r.exponent })) None)
     go true h = (leb-true r.num 1048575 (search ands), leb-true r.exponent 7 (search ands))
     go false h = tt
 
 -- ---- a new state
 
 pub nothing-fits : (c : Config) → StateFits c nothing
-nothing-fits c = record { assembled = assembly-ok c 0 0 (omega arith) (omega arith); cached = no-cache-ok c; recorded = recording-ok 0 Absent (omega arith) tt }
+nothing-fits c = record { assembled = assembly-ok c 0 0 (omega arith) (omega arith); cached = no-cache-ok c; recorded = recording-ok 0 None (omega arith) tt }
 
 pub nothing-empty : is_nothing nothing ≡ true
 unfolding is_nothing

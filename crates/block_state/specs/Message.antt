@@ -1,12 +1,11 @@
 -- What a call is handed besides its time and key. An option is absent, or its bytes.
-use Rattle.std.specs.Prelude.{ℕ, Bool, List}
-use Rattle.std.proofs.Math.Option.{Option, none, some}
+use Rattle.std.specs.Prelude.{ℕ, Bool, List, Option, Some, None}
 use Rattle.block_option.specs.Uint.{Bytes}
 
 -- An option's bytes are bytes: below 256. The code's types give it of every call.
 abbrev pub OptionBytes : Option (List ℕ) → Type 0
-OptionBytes none = Unit {0}
-OptionBytes (some bytes) = Bytes bytes
+OptionBytes None = Unit {0}
+OptionBytes (Some bytes) = Bytes bytes
 
 -- A request: the length of the message encoded without its payload, its two Block options and its payload.
 pub record Request : Type 0 where

@@ -1,7 +1,6 @@
 -- One key's state: what a new one holds, what the steps make of it, and its limits (document 01, "Table and clock").
-use Rattle.std.specs.Prelude.{ℕ, ◌+◌, Bool, true, false, cond, not, ◌&&◌, leb, eqb}
-use Rattle.negotiation.specs.declared.MaybeBlock.{MaybeBlock}
-use Rattle.negotiation.specs.declared.MaybeBlock.TheVariants.{Absent, Given}
+use Rattle.std.specs.Prelude.{ℕ, ◌+◌, Bool, true, false, cond, not, ◌&&◌, leb, eqb, Option, Some, None}
+use Rattle.block_value.specs.declared.BlockValue.{BlockValue}
 use Rattle.config.specs.declared.Config.{Config}
 use Rattle.block_state.specs.declared.Assembled.{Assembled}
 use Rattle.block_state.specs.declared.Cached.{Cached}
@@ -24,16 +23,16 @@ abbrev pub kept_while : Bool → Cached → Cached
 kept_while true cached = cached
 kept_while false cached = no_cache
 
-abbrev pub recording : MaybeBlock → Recorded
-recording Absent = record { given = false; more = false; exponent = 0; num = 0 }
-recording (Given b) = record { given = true; more = b.more; exponent = b.size_exponent; num = b.num }
+abbrev pub recording : Option BlockValue → Recorded
+recording None = record { given = false; more = false; exponent = 0; num = 0 }
+recording (Some b) = record { given = true; more = b.more; exponent = b.size_exponent; num = b.num }
 
-abbrev pub recorded_block : Recorded → MaybeBlock
-recorded_block r = cond r.given (Given (record { num = r.num; more = r.more; size_exponent = r.exponent })) Absent
+abbrev pub recorded_block : Recorded → Option BlockValue
+recorded_block r = cond r.given (Some (record { num = r.num; more = r.more; size_exponent = r.exponent })) None
 
 -- A new key "starts with nothing assembled, cached or recorded".
 abbrev pub nothing : BlockState
-nothing = record { assembled = assembly 0 0; cached = no_cache; recorded = recording Absent }
+nothing = record { assembled = assembly 0 0; cached = no_cache; recorded = recording None }
 
 abbrev pub with_assembled : BlockState → Assembled → BlockState
 with_assembled s a = record { assembled = a; cached = s.cached; recorded = s.recorded }
@@ -41,7 +40,7 @@ with_assembled s a = record { assembled = a; cached = s.cached; recorded = s.rec
 abbrev pub with_cached : BlockState → Cached → BlockState
 with_cached s c = record { assembled = s.assembled; cached = c; recorded = s.recorded }
 
-abbrev pub with_recorded : BlockState → MaybeBlock → BlockState
+abbrev pub with_recorded : BlockState → Option BlockValue → BlockState
 with_recorded s b = record { assembled = s.assembled; cached = s.cached; recorded = recording b }
 
 -- ---- Limits

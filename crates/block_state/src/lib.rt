@@ -2,30 +2,30 @@
 #![tactic(auto)]
 
 use block_value::BlockValue;
-use negotiation::MaybeBlock;
+use refusal::Refusal;
 
 pub mod state;
 
 // What is assembled of an upload, cached_request_payload in the Rust: its length, and the exponent of the last block taken.
 #[repr(C)]
-#[derive(Clone, Copy)]
+#[derive(Clone, Copy, PartialEq, Eq, Default)]
 pub struct Assembled {
     pub len: u32,
     pub exponent: u8,
 }
 
-// The cached response, cached_response in the Rust: its head and payload stand at the start of the response piece.
+// The cached response, cached_response in the Rust: its head and payload stand at the start of the response piece. A flag says whether there is one, since C shares the layout.
 #[repr(C)]
-#[derive(Clone, Copy)]
+#[derive(Clone, Copy, PartialEq, Eq, Default)]
 pub struct Cached {
     pub held: bool,
     pub head: u8,
     pub payload: u32,
 }
 
-// The recorded Block2 value, last_request_block2 in the Rust.
+// The recorded Block2 value, last_request_block2 in the Rust. A flag says whether there is one, since C shares the layout.
 #[repr(C)]
-#[derive(Clone, Copy)]
+#[derive(Clone, Copy, PartialEq, Eq, Default)]
 pub struct Recorded {
     pub given: bool,
     pub more: bool,
@@ -34,7 +34,7 @@ pub struct Recorded {
 }
 
 #[repr(C)]
-#[derive(Clone, Copy)]
+#[derive(Clone, Copy, PartialEq, Eq, Default)]
 pub struct BlockState {
     pub assembled: Assembled,
     pub cached: Cached,
@@ -49,7 +49,7 @@ pub struct Part {
     pub to: usize,
 }
 
-// A request's numbers: when it came, its length without the payload, and whether it has a Block1 and a Block2 option.
+// A request's numbers: when it came, its length without the payload, and whether it has a Block1 and a Block2 option, whose bytes C lends beside them.
 #[repr(C)]
 #[derive(Clone, Copy)]
 pub struct RequestNumbers {
@@ -71,7 +71,7 @@ pub struct ResponseNumbers {
 // What is served from the cache: a Block1 value if the call completed a body, the Block2 value, and the head and the chunk, parts of the response memory.
 #[derive(Clone, Copy)]
 pub struct Served {
-    pub block1: MaybeBlock,
+    pub block1: Option<BlockValue>,
     pub block2: BlockValue,
     pub head: Part,
     pub chunk: Part,
@@ -95,11 +95,11 @@ pub enum Answer {
     Whole(BlockValue, Part),
     // The same, and the response is cached.
     First(BlockValue, Part),
-    Refused(u8),
+    Refused(Refusal),
 }
 
 // The nine answers by name.
-#[derive(Clone, Copy)]
+#[derive(Clone, Copy, Debug, PartialEq, Eq)]
 pub enum Kind {
     Continue,
     TooLarge,
@@ -118,8 +118,8 @@ pub enum Kind {
 pub struct Said {
     pub kind: Kind,
     pub number: u8,
-    pub block1: MaybeBlock,
-    pub block2: MaybeBlock,
+    pub block1: Option<BlockValue>,
+    pub block2: Option<BlockValue>,
     pub code: u8,
     pub part: Part,
     pub head: Part,

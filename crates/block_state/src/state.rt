@@ -5,7 +5,7 @@ ghost use Rattle.block_state.specs.Step.{stepped};
 
 use crate::{Answer, Assembled, BlockState, Cached, Recorded, Stepped};
 use block_value::BlockValue;
-use negotiation::MaybeBlock;
+use refusal::Refusal;
 
 pub fn answered(state: BlockState, answer: Answer) -> Stepped
     ensures { result ≡ stepped state answer }
@@ -13,10 +13,10 @@ pub fn answered(state: BlockState, answer: Answer) -> Stepped
     Stepped { state, answer }
 }
 
-pub fn refused(state: BlockState, n: u8) -> Stepped
-    ensures { result ≡ stepped state (Answer.Refused n) }
+pub fn refused(state: BlockState, why: Refusal) -> Stepped
+    ensures { result ≡ stepped state (Answer.Refused why) }
 {
-    answered(state, Answer::Refused(n))
+    answered(state, Answer::Refused(why))
 }
 
 pub fn with_assembled(state: BlockState, len: usize, exponent: u8) -> BlockState
@@ -65,7 +65,7 @@ pub fn kept_while(more: bool, cached: Cached) -> Cached
     }
 }
 
-pub fn with_recorded(state: BlockState, block: MaybeBlock) -> BlockState
+pub fn with_recorded(state: BlockState, block: Option<BlockValue>) -> BlockState
     ensures { result ≡ with_recorded state block }
 {
     let mut next = state;
@@ -73,17 +73,17 @@ pub fn with_recorded(state: BlockState, block: MaybeBlock) -> BlockState
     next
 }
 
-pub fn recording_of(block: MaybeBlock) -> Recorded
+pub fn recording_of(block: Option<BlockValue>) -> Recorded
     ensures { result ≡ recording block }
 {
     match block {
-        MaybeBlock::Absent => Recorded {
+        None => Recorded {
             given: false,
             more: false,
             exponent: 0,
             num: 0,
         },
-        MaybeBlock::Given(b) => Recorded {
+        Some(b) => Recorded {
             given: true,
             more: b.more,
             exponent: b.size_exponent,
@@ -92,15 +92,15 @@ pub fn recording_of(block: MaybeBlock) -> Recorded
     }
 }
 
-pub fn recorded_block(recorded: Recorded) -> MaybeBlock
+pub fn recorded_block(recorded: Recorded) -> Option<BlockValue>
     ensures { result ≡ recorded_block recorded }
 {
     if recorded.given {
-        return MaybeBlock::Given(BlockValue {
+        return Some(BlockValue {
             num: recorded.num,
             more: recorded.more,
             size_exponent: recorded.exponent,
         });
     }
-    MaybeBlock::Absent
+    None
 }

@@ -6,7 +6,7 @@ use Prim.Native.Nat.{ℕ, suc, zero, ◌+◌, ◌≤◌, ◌<◌}
 use native.Mathlib.Numerals.{add-one}
 use native.Mathlib.Omega.{arith}
 use lib.ListN.{length, get_or, take, drop, set}
-use lib.Seq.{drop-cons, drop-set-lt, take-suc-set, take-suc, append_snoc}
+use lib.Seq.{drop-cons, drop-set-lt, take-suc-set, append_snoc}
 use borrow.Author.Tests.{not-false}
 use Rattle.config.specs.declared.Config.{Config}
 use Rattle.entries.specs.declared.Entry.{Entry}
@@ -63,6 +63,3 @@ module _ (p : Entry → Bool) (l : List Entry) (i : ℕ) (freed : Bool) (a : Boo
 module _ (f : Entry → Entry) (row : List Entry) (i : ℕ) (h : i < length row) where
   pub map-set : (v : Entry) → f (get_or row i nil) ≡ v → take (i + 1) (set row i v) ++ map f (drop (i + 1) (set row i v)) ≡ take i row ++ map f (drop i row)
   map-set v e = rw (add-one, take-suc-set row i v h, drop-set-lt (suc i) row i v (omega arith), append_snoc, drop-cons row i nil h, e)
-
-  pub map-keep : f (get_or row i nil) ≡ get_or row i nil → take (i + 1) row ++ map f (drop (i + 1) row) ≡ take i row ++ map f (drop i row)
-  map-keep e = rw (add-one, take-suc row i nil h, append_snoc, drop-cons row i nil h, e)

@@ -21,13 +21,10 @@ pub struct Table {
 fn alone_from(e: Entry, entries: [Entry; 16], from: usize) -> bool
     ensures { result ≡ alone e (drop from entries) }
 {
-    let mut i = from;
-    while i < 16 {
-        let f = entries[i];
-        if entries::clashes(e, f) {
+    for i in from..16 {
+        if entries::clashes(e, entries[i]) {
             return false;
         }
-        i += 1;
     }
     true
 }
@@ -36,13 +33,10 @@ fn alone_from(e: Entry, entries: [Entry; 16], from: usize) -> bool
 pub fn all_distinct(entries: [Entry; 16]) -> bool
     ensures { result ≡ distinct entries }
 {
-    let mut i = 0;
-    while i < 16 {
-        let e = entries[i];
+    for (i, &e) in entries.iter().enumerate() {
         if !alone_from(e, entries, i + 1) {
             return false;
         }
-        i += 1;
     }
     true
 }
@@ -53,12 +47,10 @@ pub fn sweep_row(entries: [Entry; 16], lifetime: u64, time: u64) -> [Entry; 16]
     ensures { (result ≡ sweep lifetime time entries) × (length result ≡ 16) }
 {
     let mut row = entries;
-    let mut i = 0;
-    while i < 16 {
-        if !expiry::is_live(row[i].used, row[i].touched, lifetime, time) {
-            row[i] = entries::free_entry();
+    for e in &mut row {
+        if !expiry::is_live(e.used, e.touched, lifetime, time) {
+            *e = entries::free_entry();
         }
-        i += 1;
     }
     row
 }
@@ -74,8 +66,8 @@ pub fn put_entry(entries: [Entry; 16], clock: u64, held: u64, i: usize, e: Entry
         row[i] = e;
     }
     Table {
-        clock: clock,
-        held: held,
+        clock,
+        held,
         entries: row,
     }
 }
@@ -83,11 +75,10 @@ pub fn put_entry(entries: [Entry; 16], clock: u64, held: u64, i: usize, e: Entry
 pub fn fresh() -> Table
     ensures { result ≡ fresh_table }
 {
-    let e = entries::free_entry();
     Table {
         clock: 0,
         held: 0,
-        entries: [e; 16],
+        entries: [entries::free_entry(); 16],
     }
 }
 

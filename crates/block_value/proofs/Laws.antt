@@ -1,4 +1,5 @@
 -- The laws of the block value: the search for the exponent, and the cases of make. Assumes nothing.
+use Rattle.std.specs.Prelude.{Some, None}
 use mathlib.Core.Path.{◌≡◌, sym, ap, ◌∙◌}
 use mathlib.Core.Bool.{Bool}
 use mathlib.Core.Logic.{⊎_elim}
@@ -10,7 +11,6 @@ use lib.Pow.{pow-add, pow_mono, pow-lt, shl_exact}
 use borrow.Author.Tests.{le-leb, lt-leb, lt-ltb, le-ltb, eq-eqb, ne_eqb}
 use Rattle.config.specs.Mode.{num_limit}
 use Rattle.block_value.specs.Value.{largest_power, exponent_of, made, size_of}
-use Rattle.block_value.specs.declared.Made.TheVariants as made-variants
 
 -- ---- the largest power of two
 
@@ -72,19 +72,19 @@ exponent-size e h =
 -- ---- make, by its cases
 
 module _ (strict : Bool) (num : ℕ) (more : Bool) (size : ℕ) where
-  pub made-zero : size ≡ 0 → made strict num more size ≡ made-variants.Refused
+  pub made-zero : size ≡ 0 → made strict num more size ≡ None
   unfolding made
   made-zero h = rw (eq-eqb size 0 h)
 
-  pub made-large : (size ≡ 0 → ⊥) → 7 < exponent_of size → made strict num more size ≡ made-variants.Refused
+  pub made-large : (size ≡ 0 → ⊥) → 7 < exponent_of size → made strict num more size ≡ None
   unfolding made
   made-large z h = rw (ne_eqb size 0 z, lt-ltb 7 (exponent_of size) h)
 
-  pub made-far : (size ≡ 0 → ⊥) → exponent_of size ≤ 7 → num_limit strict < num → made strict num more size ≡ made-variants.Refused
+  pub made-far : (size ≡ 0 → ⊥) → exponent_of size ≤ 7 → num_limit strict < num → made strict num more size ≡ None
   unfolding made
   made-far z h n = rw (ne_eqb size 0 z, le-ltb 7 (exponent_of size) h, lt-ltb (num_limit strict) num n)
 
   pub made-well : (size ≡ 0 → ⊥) → (e : ℕ) → e ≡ exponent_of size → e ≤ 7 → num ≤ num_limit strict
-      → made strict num more size ≡ made-variants.Value (record { num = num; more = more; size_exponent = e })
+      → made strict num more size ≡ Some (record { num = num; more = more; size_exponent = e })
   unfolding made
   made-well z e q h n = rw (q, ne_eqb size 0 z, le-ltb 7 (exponent_of size) (rw q at h), le-ltb (num_limit strict) num n)

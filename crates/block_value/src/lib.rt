@@ -4,19 +4,12 @@
 ghost use Rattle.std.specs.Prelude.{◌≡◌, ◌*◌, ◌^◌, ◌<◌, ◌≤◌};
 ghost use Rattle.block_value.specs.Value.{largest_power, made, block_size, block_start};
 
-#[derive(Clone, Copy)]
+#[derive(Clone, Copy, Debug, PartialEq, Eq)]
 pub struct BlockValue {
     pub num: u32,
     pub more: bool,
     // Its size and its written form take the low three bits.
     pub size_exponent: u8,
-}
-
-// What make answers.
-#[derive(Clone, Copy)]
-pub enum Made {
-    Value(BlockValue),
-    Refused,
 }
 
 // The exponent of the largest power of two that does not exceed target.
@@ -33,31 +26,24 @@ fn largest_power_of_2_not_in_excess(target: usize) -> usize
     exponent
 }
 
-// Makes a block value, of a num up to the mode's limit.
-pub fn make(strict: bool, num: usize, more: bool, size: usize) -> Made
+// Makes a block value, of a num up to the mode's limit. There is none of size 0, nor of 4,096 or more.
+pub fn make(strict: bool, num: usize, more: bool, size: usize) -> Option<BlockValue>
     ensures { result ≡ made strict num more size }
 {
     if size == 0 {
-        return Made::Refused;
+        return None;
     }
     let exponent = largest_power_of_2_not_in_excess(size);
     if 11 < exponent {
-        return Made::Refused;
+        return None;
     }
     if config::num_limit(strict) < num {
-        return Made::Refused;
+        return None;
     }
-    if exponent < 4 {
-        return Made::Value(BlockValue {
-            num: num as u32,
-            more,
-            size_exponent: 0,
-        });
-    }
-    Made::Value(BlockValue {
+    Some(BlockValue {
         num: num as u32,
         more,
-        size_exponent: (exponent - 4) as u8,
+        size_exponent: exponent.saturating_sub(4) as u8,
     })
 }
 

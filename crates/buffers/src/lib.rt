@@ -15,12 +15,20 @@ const MEMORY: usize = 16 * PIECE;
 // A whole memory in hex, with what stands before it, behind what waits.
 const OUTPUT: usize = 2200000;
 
+// So many zeros. Lending them as a slice needs their length.
+pub fn zeros<const N: usize>() -> [u8; N]
+    ensures value { result ≡ replicate N 0 }
+    ensures len { N ≡ length result }
+{
+    [0; N]
+}
+
 // The bytes of a line's fields.
 pub fn scratch() -> [u8; SCRATCH]
     ensures value { result ≡ replicate scratch_size 0 }
     ensures scratch_size_value { scratch_size ≡ length result }
 {
-    [0; SCRATCH]
+    zeros()
 }
 
 // Sixteen pieces of the longest length.
@@ -28,7 +36,7 @@ pub fn memory() -> [u8; MEMORY]
     ensures value { result ≡ replicate memory_size 0 }
     ensures memory_size_value { memory_size ≡ length result }
 {
-    [0; MEMORY]
+    zeros()
 }
 
 // Output that waits.
@@ -36,15 +44,12 @@ pub fn output() -> [u8; OUTPUT]
     ensures value { result ≡ replicate output_size 0 }
     ensures output_size_value { output_size ≡ length result }
 {
-    [0; OUTPUT]
+    zeros()
 }
 
 // How much of a memory is used by pieces of this length.
 pub fn memory_of(piece: usize) -> usize
     ensures { (result ≡ memory_of piece) × (result ≤ memory_size) }
 {
-    if piece < PIECE {
-        return 16 * piece;
-    }
-    MEMORY
+    16 * piece.min(PIECE)
 }

@@ -1,5 +1,6 @@
 -- Laws of a call: it is refused or has its place; it keeps the limits; a call for another key keeps a live entry and both its pieces; a
 -- request at its key's place is its step. Assumes nothing.
+use Rattle.refusal.specs.declared.Refusal.TheVariants.{OffLimits, ClockBack, TableFull}
 use Prim.Native.Nat.{ℕ, ◌+◌, ◌*◌, ◌≤◌, ◌<◌}
 use mathlib.Core.Bool.{Bool, true, false, not}
 use mathlib.Core.Path.{◌≡◌, refl, sym, ◌∙◌}
@@ -9,6 +10,7 @@ use native.Mathlib.Omega.{arith}
 use lib.ListN.{length, length-set}
 use lib.Dec.{leb, ltb}
 use borrow.Author.Tests.{ltb-false, leb-false, eqb-true, le-ltb, lt-leb, eq-eqb, leb-true}
+use Rattle.refusal.specs.declared.Refusal.{Refusal}
 use Rattle.pieces.specs.Memory.{piece_of}
 use Rattle.pieces.proofs.Memory.{piece-order, length-piece, length-put, piece-put-same, piece-put-other}
 use Rattle.config.specs.declared.Config.{Config}
@@ -79,17 +81,17 @@ pub record Took (c : Config) (d : Done) (i time : ℕ) (key : Key) (g : Left) : 
   pub answer : d.answer ≡ g.answer
 
 -- a call is refused with nothing changed, or is made at its place
-pub call-cases : (P : Done → Type 0) (c : Config) (w : World) (q : Call) → ((n : ℕ) → P (done w (Refused n)))
+pub call-cases : (P : Done → Type 0) (c : Config) (w : World) (q : Call) → ((n : Refusal) → P (done w (Refused n)))
     → (key_ok q.key ≡ true → what_ok q.what ≡ true → w.table.clock ≤ q.time → place q.key (row_of c w q) < 16
     → P (call_at c w q.time (row_of c w q) (place q.key (row_of c w q)) (opened q.key (row_of c w q)) q.what))
     → P (call c w q)
 unfolding call within_limits
 call-cases P c w q nay aye =
-    on_test P (not (within_limits c w q)) (λ _. nay 1)
+    on_test P (not (within_limits c w q)) (λ _. nay OffLimits)
     (λ ok.
     let h : within_limits c w q ≡ true = not-not (within_limits c w q) ok in
-    on_test P (ltb q.time w.table.clock) (λ _. nay 2)
-    (λ time. on_test P (leb 16 (place q.key (row_of c w q))) (λ _. nay 3)
+    on_test P (ltb q.time w.table.clock) (λ _. nay ClockBack)
+    (λ time. on_test P (leb 16 (place q.key (row_of c w q))) (λ _. nay TableFull)
     (λ room. aye (search ands) (search ands) (ltb-false q.time w.table.clock time) (leb-false 16 (place q.key (row_of c w q)) room))))
   where
     not-not : (b : Bool) → not b ≡ false → b ≡ true

@@ -1,4 +1,5 @@
 -- A call by its verdict, and a call at its place as the code makes it. Assumes nothing.
+use Rattle.std.specs.Prelude.{Result, Ok, Err}
 use Prim.Native.Nat.{ℕ, ◌+◌, ◌-◌, ◌*◌, ◌≤◌, ◌<◌}
 use mathlib.Core.Path.{◌≡◌, refl, sym, ap, ◌∙◌}
 use mathlib.Core.Bool.{Bool, true, false, ◌&&◌}
@@ -6,6 +7,7 @@ use mathlib.Core.List.{List, ◌++◌}
 use native.Mathlib.Omega.{arith}
 use lib.ListN.{length, take, drop}
 use lib.Dec.{leb, ltb}
+use Rattle.refusal.specs.declared.Refusal.{Refusal}
 use Rattle.pieces.specs.Memory.{part, piece_of, put_piece}
 use Rattle.pieces.proofs.Memory.{patch-lent, length-piece}
 use Rattle.pieces.proofs.Tests.{by_cases}
@@ -38,8 +40,6 @@ use Rattle.places.specs.Sight.{Sees}
 use Rattle.places.proofs.Sighted.{seen_back}
 use Rattle.table_change.specs.Change.{changed, unchanged, opened_from, change_to}
 use Rattle.judge.specs.declared.Lengths.{Lengths}
-use Rattle.judge.specs.declared.Verdict.{Verdict}
-use Rattle.judge.specs.declared.Verdict.TheVariants as verdict
 use Rattle.judge.specs.Verdict.{lengths, message_ok, limits_ok, verdict_of, HasPlace}
 use Rattle.judge.proofs.Judged.{verdict-is, at_place, seen_entry, seen-others, seen-freed}
 use Rattle.call.specs.Call.{World, Call, Done, done, what_ok, within_limits, table_after, request_left, response_left, call_at, row_of, call}
@@ -47,9 +47,9 @@ use Rattle.call.specs.Contract.{world, asked_at}
 
 -- ---- a call by its verdict
 
-abbrev pub judged : Config → World → Call → Verdict → Done
-judged c w q (verdict.Refused n) = done w (Refused n)
-judged c w q (verdict.Place i) = call_at c w q.time (row_of c w q) i (opened q.key (row_of c w q)) q.what
+abbrev pub judged : Config → World → Call → Result ℕ Refusal → Done
+judged c w q (Err n) = done w (Refused n)
+judged c w q (Ok i) = call_at c w q.time (row_of c w q) i (opened q.key (row_of c w q)) q.what
 
 module _ (c : Config) (w : World) (q : Call) (bare payload head : ℕ) (same : what_ok q.what ≡ message_ok bare payload head) where
   abbrev sizes : Lengths
@@ -70,7 +70,7 @@ module _ (c : Config) (w : World) (q : Call) (bare payload head : ℕ) (same : w
       (λ l. rw l))
 
   -- what the code answers, by the verdict that it found
-  pub call_by : (v x : Verdict) → v ≡ verdict_of c w.table q.time q.key sizes → v ≡ x → judged c w q x ≡ call c w q
+  pub call_by : (v x : Result ℕ Refusal) → v ≡ verdict_of c w.table q.time q.key sizes → v ≡ x → judged c w q x ≡ call c w q
   call_by v x e f = sym (call-judged ∙ ap (judged c w q) (sym e ∙ f))
 
 -- a request has no head
@@ -87,7 +87,7 @@ unfolding what_ok message_ok
 response-ok r = refl
 
 -- a refusal leaves all as it was
-pub refusal : (c : Config) (w : World) (time : ℕ) (key : Name) (s : Sight) (n : ℕ) → Sees c time key w.table s
+pub refusal : (c : Config) (w : World) (time : ℕ) (key : Name) (s : Sight) (n : Refusal) → Sees c time key w.table s
     → done (world (changed c.lifetime time w.table (unchanged s n)) w.upload w.response) (Refused n) ≡ done w (Refused n)
 refusal c w time key s n sees = λ k. done (world (seen_back c time key w.table s sees k) w.upload w.response) (Refused n)
 

@@ -1,5 +1,6 @@
 -- A call on the table and both memories (document 01, checks 1 to 3, "Table and clock", "The ten refusals").
 use Rattle.std.specs.Prelude.{ℕ, ◌*◌, Bool, cond, not, ◌&&◌, List, length, leb, ltb}
+use Rattle.refusal.specs.declared.Refusal.TheVariants.{OffLimits, ClockBack, TableFull}
 use Rattle.pieces.specs.Memory.{piece_of, put_piece}
 use Rattle.config.specs.declared.Config.{Config}
 use Rattle.block_state.specs.declared.BlockState.{BlockState}
@@ -82,7 +83,7 @@ row_of c w q = sweep c.lifetime q.time w.table.entries
 -- A CALL. Checks 1, 2 and 3 leave everything; then the entry is found or made, and touched, and the call takes its step.
 unfoldable pub call : Config → World → Call → Done
 call c w q =
-    cond (not (within_limits c w q)) (done w (Refused 1))
-    (cond (ltb q.time w.table.clock) (done w (Refused 2))
-    (cond (leb 16 (place q.key (row_of c w q))) (done w (Refused 3))
+    cond (not (within_limits c w q)) (done w (Refused OffLimits))
+    (cond (ltb q.time w.table.clock) (done w (Refused ClockBack))
+    (cond (leb 16 (place q.key (row_of c w q))) (done w (Refused TableFull))
     (call_at c w q.time (row_of c w q) (place q.key (row_of c w q)) (opened q.key (row_of c w q)) q.what)))

@@ -1,4 +1,5 @@
 -- What demand 3 for a sender that goes smaller asks for can be given, by computation, and the shams break it. Assumes nothing.
+use Rattle.std.specs.Prelude.{Some}
 use Prim.Native.Nat.{ℕ, zero, suc, ◌+◌, ◌≤◌, ◌<◌}
 use mathlib.Core.Bool.{Bool, true, false, cond, false≢true}
 use mathlib.Core.Path.{◌≡◌, refl}
@@ -6,7 +7,6 @@ use mathlib.Core.Logic.{inr}
 use mathlib.Core.List.{◌∷◌, []}
 use native.Mathlib.Omega.{arith}
 use Rattle.config.proofs.Mode.{nums-least}
-use Rattle.negotiation.specs.declared.MaybeBlock.TheVariants.{Given}
 use Rattle.apart.specs.Answers as answers
 use Rattle.apart.specs.Answers.{said, continue, refusal}
 use Rattle.call.specs.Call.{call}
@@ -72,7 +72,7 @@ again-fall strict =
       soon = omega arith;
     }
 
-reply_fall : (strict : Bool) → (said (call (narrow strict) lent (call_on key (first64 5 65))).answer).block1 ≡ Given (block 0 true 1)
+reply_fall : (strict : Bool) → (said (call (narrow strict) lent (call_on key (first64 5 65))).answer).block1 ≡ Some (block 0 true 1)
 unfolding calls
 reply_fall true = refl
 reply_fall false = refl

@@ -1,10 +1,10 @@
 -- What the statements ask for can be given, by computation. Assumes nothing.
+use Rattle.std.specs.Prelude.{Some, None, Ok}
 use Prim.Native.Nat.{ℕ, ◌+◌, ◌≤◌, ◌<◌}
 use mathlib.Core.Bool.{Bool, true, false, ◌&&◌, false≢true}
 use mathlib.Core.Path.{◌≡◌, refl, sym, ◌∙◌, ap, subst}
 use mathlib.Core.Logic.{inl, inr}
 use mathlib.Core.List.{List, [], ◌∷◌, ◌++◌, map}
-use mathlib.Core.Option.{none, some}
 use native.Mathlib.Omega.{arith}
 use lib.ListN.{length, replicate}
 use lib.Dec.{ltb}
@@ -12,8 +12,6 @@ use borrow.Author.Tests.{ltb-true}
 use Rattle.pieces.proofs.Tests.{and_left, and_right}
 use Rattle.block_value.specs.Value.{size_of}
 use Rattle.negotiation.specs.Negotiation.{negotiated}
-use Rattle.negotiation.specs.declared.MaybeBlock.TheVariants.{Given}
-use Rattle.negotiation.specs.declared.Negotiated.TheVariants.{Block}
 use Rattle.block_state.specs.Message.{request, WhatBytes}
 use Rattle.apart.specs.Answers.{said, served}
 use Rattle.keys.specs.Keys as keys
@@ -70,7 +68,10 @@ sends : (strict : Bool) (b : ℕ) → requests_on (key_of_byte b) counting ≡ c
 sends strict b own =
     record {
       own = ap (requests_on (key_of_byte b)) counted_is ∙ own;
-      proper = (blocks-fall strict 5 8 9 b b b (omega arith) (omega arith), (one_size_lem (narrow strict) 0 _ _ (one_block (narrow strict) (omega arith) 10 (b ∷ b ∷ []) (omega arith) (omega arith)), tt));
+      proper = (
+        blocks-fall strict 5 8 9 b b b (omega arith) (omega arith),
+        (one_size_lem (narrow strict) 0 _ _ (one_block (narrow strict) (omega arith) 10 (b ∷ b ∷ []) (omega arith) (omega arith)), tt),
+      );
     }
 
 -- ---- seventeen blocks
@@ -131,7 +132,7 @@ abbrev marked : ℕ → Sent
 marked n = sent 5 (0x18 ∷ []) (replicate n 2)
 
 passes-five : (n : ℕ) → within_limits (config true) fresh (call_on key (marked n)) ≡ true
-    → negotiated (config true) (Given (block 1 true 0)) 20 (length (marked n).message.payload) ≡ Block (block 1 false 0)
+    → negotiated (config true) (Some (block 1 true 0)) 20 (length (marked n).message.payload) ≡ Ok (Some (block 1 false 0))
     → PassesFive (config true) fresh (call_on key (marked n)) (marked n).message (block 1 true 0)
 unfolding calls
 passes-five n ok agreed =
@@ -148,7 +149,7 @@ unfolding calls
 serves-it true = refl
 serves-it false = refl
 
-stored-it : (strict : Bool) → last_stored call (config strict) fresh key none storing ≡ some page
+stored-it : (strict : Bool) → last_stored call (config strict) fresh key None storing ≡ Some page
 unfolding calls
 stored-it true = refl
 stored-it false = refl

@@ -1,4 +1,5 @@
 -- Plain mode keeps an old list's tail, and strict mode does not. Assumes nothing.
+use Rattle.std.specs.Prelude.{None, Ok}
 use Prim.Native.Nat.{ℕ, ◌+◌, ◌-◌, ◌*◌, ◌≤◌}
 use mathlib.Core.Bool.{Bool, true, false}
 use mathlib.Core.Path.{◌≡◌, refl, sym, ◌∙◌, ap}
@@ -11,12 +12,10 @@ use lib.Seq.{drop-drop, take_at, drop_at, length-take-le}
 use Rattle.pieces.specs.Memory.{patch, part}
 use Rattle.splicing.specs.Splice.{spliced_length, splice_of, piece_after}
 use Rattle.splicing.specs.Splice as pieces
-use Rattle.splicing.specs.declared.Splice.TheVariants.{Body}
 use Rattle.pieces.proofs.Memory.{drop-part}
 use Rattle.splicing.proofs.Splicing as splicing
 use Rattle.block_value.specs.Value.{size_of, block_size, block_start}
 use Rattle.block_value.specs.declared.BlockValue.{BlockValue}
-use Rattle.negotiation.specs.declared.MaybeBlock.TheVariants.{Absent}
 use Rattle.config.specs.declared.Config.{Config}
 use Rattle.config.specs.Mode.{num_limit}
 use Rattle.config.proofs.Mode.{limit-least}
@@ -72,11 +71,11 @@ module _ (c : Config) (home at : ℕ) (s : BlockState) (u : List ℕ) (x j a l :
   met : length_met c.strict s.assembled b ≡ l
   met = meets-all c.strict s.assembled b (λ strict. absurd (clash-of c.strict strict plain)) ∙ hl
 
-  body : splice_of c.upload l (block_start b) (block_size b) (length r.payload) ≡ Body l
+  body : splice_of c.upload l (block_start b) (block_size b) (length r.payload) ≡ Ok l
   body =
       let p : ℕ = length r.payload in
       let n : spliced_length l a (size_of x) p ≡ l = omega (arith, h.full) in
-      rw start (splicing.taken c.upload l a (size_of x) p (omega arith) (omega arith) ∙ ap Body n)
+      rw start (splicing.taken c.upload l a (size_of x) p (omega arith) (omega arith) ∙ ap Ok n)
 
   piece : piece_after u l (block_start b) (block_size b) r.payload ≡ replaced
   unfolding piece_after
@@ -88,7 +87,7 @@ module _ (c : Config) (home at : ℕ) (s : BlockState) (u : List ℕ) (x j a l :
       step-more c home at s u r b (unmarked b) h.numbered carried.agreed (form-ok c b r carried) (rw plain) l met l replaced body piece
 
   within-last : m ≡ false
-      → step_request c home at s u r ≡ left (with_recorded (with_assembled s (assembly 0 0)) Absent) replaced (Handed (unmarked b) (bytes_from home l))
+      → step_request c home at s u r ≡ left (with_recorded (with_assembled s (assembly 0 0)) None) replaced (Handed (unmarked b) (bytes_from home l))
   unfolding carried
   within-last last =
       step-last c home at s u r b (unmarked b) h.numbered carried.agreed (form-ok c b r carried) (rw plain) l met l replaced body piece last h.alone
@@ -138,7 +137,7 @@ tail-kept c home at s u x l first last plain hx hl h fits hu f g =
     let e₁ : once c home at s u first ≡ left s₁ u₁ (Continue (block 0 false x)) =
     within_more c home at s u x 0 0 l true first plain hx (omega arith) (zero-mul size) hl (omega arith) fits f refl in
     let last_one = within-last c home at s₁ u₁ x 1 size l false last plain hx (omega arith) (one-mul size) refl (omega arith) fits g refl in
-    let e : twice c home at s u first last ≡ left (with_recorded (with_assembled s₁ (assembly 0 0)) Absent) (patch u₁ 0 b₂) (Handed (block 1 false x) (bytes_from home l)) =
+    let e : twice c home at s u first last ≡ left (with_recorded (with_assembled s₁ (assembly 0 0)) None) (patch u₁ 0 b₂) (Handed (block 1 false x) (bytes_from home l)) =
     ap (λ (v : Left). step_request c home at v.state v.piece last) e₁ ∙ (rw held at last_one) in (
       ap (λ (v : Left). v.answer) e₁,
       ap (λ (v : Left). v.answer) e,

@@ -1,10 +1,10 @@
 -- A client can send as many full blocks as the mode has nums. By induction on how many blocks follow one: no list of that length is computed. Assumes nothing.
+use Rattle.std.specs.Prelude.{Some, None}
 use Prim.Native.Nat.{ℕ, zero, suc, ◌+◌, ◌*◌, ◌≤◌, ◌<◌}
 use mathlib.Core.Bool.{Bool, true, false}
 use mathlib.Core.Path.{◌≡◌, refl, ap}
 use mathlib.Core.Logic.{inr}
 use mathlib.Core.List.{List, [], ◌∷◌, map}
-use mathlib.Core.Option.{some}
 use native.Mathlib.Omega.{arith}
 use lib.ListN.{length, replicate, length-append, length-replicate}
 use lib.Pow.{pow_mono}
@@ -18,8 +18,7 @@ use Rattle.block_value.proofs.Laws.{size-most}
 use Rattle.block_option.specs.Uint.{Bytes}
 use Rattle.block_option.specs.Option.{written}
 use Rattle.block_option.proofs.Rfc7959.{as-the-rfc}
-use Rattle.negotiation.specs.Negotiation.{counted, request_block}
-use Rattle.negotiation.specs.declared.MaybeBlock.TheVariants.{Absent, Given}
+use Rattle.negotiation.specs.Negotiation.{request_block}
 use Rattle.block_state.specs.Message.{Request}
 use Rattle.keys.specs.Keys.{key_ok}
 use Rattle.keys.proofs.Keys.{same_refl}
@@ -34,11 +33,11 @@ use Rattle.cases.proofs.Shams.{fresh-free, fresh-nothing}
 -- ---- what is written is read: it is bytes, and reads as the value
 
 abbrev Kept : Config → BlockValue → Type 0
-Kept c b = Bytes (written c.strict b) × (request_block c (some (written c.strict b)) ≡ Given b)
+Kept c b = Bytes (written c.strict b) × (request_block c (Some (written c.strict b)) ≡ Some b)
 
 kept : (c : Config) (b : BlockValue) → b.num < nums c.strict → b.size_exponent ≤ 7 → Kept c b
 unfolding request_block
-kept c b few known = let w = (as-the-rfc c.strict).write b (omega arith) known in (w.0.bytes, ap counted w.3)
+kept c b few known = let w = (as-the-rfc c.strict).write b (omega arith) known in (w.0.bytes, w.3)
 
 -- ---- the client's blocks
 
@@ -104,10 +103,10 @@ module _ (c : Config) (x : ℕ) where
         blocks =
             record {
               count = rw (following-many 0 left) few;
-              numbered = each (λ j more r. request_block c r.block1 ≡ Given (block j more x)) (λ j l b. (kept c (block j (marked l) x) b (omega arith)).1) 0 left (omega arith);
+              numbered = each (λ j more r. request_block c r.block1 ≡ Some (block j more x)) (λ j l b. (kept c (block j (marked l) x) b (omega arith)).1) 0 left (omega arith);
               size = known;
               full = each (λ j more r. Fills more (length r.payload) (size_of x)) (λ j l b. fills (marked l) (length-replicate {A = ℕ} (size_of x) 65)) 0 left (omega arith);
-              alone = each (λ j more r. request_block c r.block2 ≡ Absent) (λ j l b. refl) 0 left (omega arith);
+              alone = each (λ j more r. request_block c r.block2 ≡ None) (λ j l b. refl) 0 left (omega arith);
               room = each (λ j more r. r.bare + 12 + size_of x ≤ c.limit) (λ j l b. room) 0 left (omega arith);
               fits = rw (joined_length 0 left) fits;
               prompt = prompt (leb-true 1 c.lifetime (search ands)) 0 left;

@@ -1,10 +1,10 @@
 -- What demand 3 asks for can be given, and the four shams break it. Assumes nothing.
+use Rattle.std.specs.Prelude.{Some}
 use Prim.Native.Nat.{ℕ, zero, suc, ◌+◌, ◌-◌, ◌≤◌, ◌<◌}
 use mathlib.Core.Bool.{Bool, true, false, cond, ◌&&◌}
 use mathlib.Core.Path.{◌≡◌, refl, sym, ◌∙◌, ap}
 use mathlib.Core.Logic.{inl, inr}
 use mathlib.Core.List.{List, [], ◌∷◌, ◌++◌}
-use mathlib.Core.Option.{some}
 use native.Mathlib.Omega.{arith}
 use lib.ListN.{length, get_or, take, drop, replicate, get_or-replicate, get_or-eq_default, length-take}
 use lib.Seq.{get_or-drop, get_or-take}
@@ -16,8 +16,7 @@ use Rattle.config.proofs.Mode.{bytes-least, nums-least}
 use Rattle.block_option.specs.Uint.{uint}
 use Rattle.block_option.specs.Option.{unpacked}
 use Rattle.block_option.proofs.Laws.{read-few}
-use Rattle.negotiation.specs.Negotiation.{counted, request_block}
-use Rattle.negotiation.specs.declared.MaybeBlock.TheVariants.{Given}
+use Rattle.negotiation.specs.Negotiation.{request_block}
 use Rattle.config.specs.declared.Config.{Config}
 use Rattle.block_state.specs.declared.Part.{Part}
 use Rattle.block_state.specs.declared.Answer.{Answer}
@@ -48,9 +47,9 @@ pub fresh-nothing : (c : Config) (w : World) (time : ℕ) (k : Name) → w.table
 fresh-nothing c w time k fresh plain i b h y = rw (fresh-entry w fresh i b)
 
 -- an option of at most two bytes is read in either mode
-pub reads : (c : Config) (option : List ℕ) → length option ≤ 2 → request_block c (some option) ≡ Given (unpacked (uint option))
+pub reads : (c : Config) (option : List ℕ) → length option ≤ 2 → request_block c (Some option) ≡ Some (unpacked (uint option))
 unfolding values
-reads c option short = ap counted (read-few c.strict option (omega (arith, bytes-least c.strict)))
+reads c option short = read-few c.strict option (omega (arith, bytes-least c.strict))
 
 -- a block alone, and two blocks, of at most 16 bytes
 module _ (c : Config) (room : 48 ≤ c.limit) where
@@ -219,7 +218,7 @@ shown-zero (Whole b p) payload n e = refl
 shown-zero (First b p) payload n e = refl
 shown-zero (Refused m) payload n e = refl
 
-first_reads : (c : Config) → request_block c first_block.message.block1 ≡ Given (block 0 true 0)
+first_reads : (c : Config) → request_block c first_block.message.block1 ≡ Some (block 0 true 0)
 unfolding values
 first_reads c = reads c (0x08 ∷ []) (omega arith)
 

@@ -1,6 +1,6 @@
 -- Cases at the edges of document 01's numbers, of which document 02 has moved U's largest, beside its cases 1 to 12, as rows of a table of their own.
-use Rattle.std.specs.Prelude.{ℕ, Bool, true, false, cond, List, [], ◌∷◌, replicate}
-use Rattle.splicing.specs.declared.Splice.TheVariants.{Body, Refused}
+use Rattle.std.specs.Prelude.{ℕ, Bool, true, false, cond, List, [], ◌∷◌, replicate, Ok, Err}
+use Rattle.refusal.specs.declared.Refusal.TheVariants.{Jump}
 use Rattle.config.specs.declared.Config.{Config}
 use Rattle.block_state.specs.State.{nothing}
 use Rattle.keys.specs.Keys.{key_ok, no_key}
@@ -19,8 +19,8 @@ configured strict limit lifetime upload response = record { strict = strict; lim
 abbrev pub edge_cases : List Row
 edge_cases =
     -- 16 bytes assembled, size 16, num 1024: the block ends 16,384 past them, and is taken. 15 assembled: 16,385 past them, refusal 6.
-    splices (splice_of_block 65536 16 (block 1024 true 0) 16) (Body 16400)
-    ∷ splices (splice_of_block 65536 15 (block 1024 true 0) 16) (Refused 6)
+    splices (splice_of_block 65536 16 (block 1024 true 0) 16) (Ok 16400)
+    ∷ splices (splice_of_block 65536 15 (block 1024 true 0) 16) (Err Jump)
     -- An entry touched at 0, lifetime 120,000: live at 119,999, and not at 120,000.
     ∷ number (told (live 120000 119999 (in_use no_key 0 nothing))) 1
     ∷ number (told (live 120000 120000 (in_use no_key 0 nothing))) 0

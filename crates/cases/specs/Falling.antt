@@ -1,9 +1,9 @@
 -- Demand 3 for a sender that goes smaller is no empty promise: what it and the other statements about falling sizes ask for can be given, with a size that falls twice; the sham
 -- handlers of document 01 break it; and so does a handler that takes one size only, as strict mode did before.
-use Rattle.std.specs.Prelude.{ℕ, zero, suc, ◌+◌, ◌<◌, Bool, true, false, cond, not, ◌&&◌, ◌≡◌, List, [], ◌∷◌, length, replicate, ltb, eqb}
+use Rattle.std.specs.Prelude.{ℕ, zero, suc, ◌+◌, ◌<◌, Bool, true, false, cond, not, ◌&&◌, ◌≡◌, List, [], ◌∷◌, length, replicate, ltb, eqb, Option, Some, None}
+use Rattle.refusal.specs.declared.Refusal.TheVariants.{NotNext}
+use Rattle.block_value.specs.declared.BlockValue.{BlockValue}
 use Rattle.block_value.specs.Value.{size_of, block_start}
-use Rattle.negotiation.specs.declared.MaybeBlock.{MaybeBlock}
-use Rattle.negotiation.specs.declared.MaybeBlock.TheVariants.{Absent, Given}
 use Rattle.config.specs.declared.Config.{Config}
 use Rattle.block_state.specs.declared.Assembled.{Assembled}
 use Rattle.block_state.specs.declared.Answer.TheVariants.{Refused}
@@ -66,7 +66,7 @@ pub record CanFall : Type 0 where
   pub granted : (strict : Bool) → Granted (narrow strict) lent key (first64 5 65) rest later
   -- Block 0 does not leave room for its size, and the reply asks for blocks of 32 bytes.
   pub no_room : (strict : Bool) → (narrow strict).limit < (first64 5 65).message.bare + 12 + size_of 2
-  pub reply : (strict : Bool) → (said (call (narrow strict) lent (call_on key (first64 5 65))).answer).block1 ≡ Given (block 0 true 1)
+  pub reply : (strict : Bool) → (said (call (narrow strict) lent (call_on key (first64 5 65))).answer).block1 ≡ Some (block 0 true 1)
   -- The calls between are taken, refused with 1, cached, and refused with 9 (taken in plain mode).
   pub between : (strict : Bool)
       → kinds (run call (narrow strict) lent (call_on key (first64 5 65) ∷ later))
@@ -106,14 +106,14 @@ abbrev pub BreaksFalling : (Bool → Handler → Type 0) → Type 0
 BreaksFalling Sham = (strict : Bool) (h : Handler) → Sham strict h → Demand3Falling h → ⊥
 
 -- A block that is smaller than the last one taken, and not block 0.
-abbrev pub smaller : MaybeBlock → Assembled → Bool
-smaller Absent a = false
-smaller (Given b) a = not (eqb b.num 0) && ltb b.size_exponent a.exponent
+abbrev pub smaller : Option BlockValue → Assembled → Bool
+smaller None a = false
+smaller (Some b) a = not (eqb b.num 0) && ltb b.size_exponent a.exponent
 
 -- All that it should be, but that in strict mode it refuses such a block where it should be taken.
 abbrev pub one_size_only : Handler
 one_size_only c w q =
-    cond (c.strict && smaller (block1_of c q.what) (assembled_for c w q) && took_block (call c w q).answer) (done (touched c w q) (Refused 9)) (call c w q)
+    cond (c.strict && smaller (block1_of c q.what) (assembled_for c w q) && took_block (call c w q).answer) (done (touched c w q) (Refused NotNext)) (call c w q)
 
 pub record FallingExcluded : Type 1 where
   -- What breaks demand 3 breaks it.

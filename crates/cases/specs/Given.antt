@@ -1,7 +1,6 @@
 -- What the statements of Twice.antt, Crossing.antt and Pages.antt of many_calls and Clocks.antt of demands ask for can be given, in both modes, and so can what Strict.antt of
 -- one_call asks for (more of it in Falling.antt).
-use Rattle.std.specs.Prelude.{ℕ, Bool, true, false, List, [], ◌∷◌, ◌++◌, map, ◌≡◌, length, replicate}
-use Rattle.std.proofs.Math.Option.{none, some}
+use Rattle.std.specs.Prelude.{ℕ, Bool, true, false, List, [], ◌∷◌, ◌++◌, map, ◌≡◌, length, replicate, Some, None}
 use Rattle.config.specs.declared.Config.{Config}
 use Rattle.block_state.specs.Message.{request, response}
 use Rattle.apart.specs.Answers.{said, served}
@@ -102,7 +101,7 @@ abbrev pub storing : List Call
 storing = record { time = 5; key = key; what = response (record { bare = 36; own = false; head = page.head; payload = page.payload }) } ∷ []
 
 abbrev pub asking : Call
-asking = record { time = 6; key = key; what = request (record { bare = 20; block1 = none; block2 = some (0x10 ∷ []); payload = [] }) }
+asking = record { time = 6; key = key; what = request (record { bare = 20; block1 = None; block2 = Some (0x10 ∷ []); payload = [] }) }
 
 abbrev pub asked : Bool → Done
 asked strict = call (config strict) (after call (config strict) fresh storing) asking
@@ -121,5 +120,5 @@ pub record AllCanBeGiven : Type 0 where
   pub astray : PassesFive (config true) fresh (call_on key (sent 5 (0x18 ∷ []) (replicate 16 2))) (sent 5 (0x18 ∷ []) (replicate 16 2)).message (block 1 true 0)
   pub well : BadlyFormed (block 1 true 0) 16 → ⊥
   pub serves : (strict : Bool) → (said (asked strict).answer).kind ≡ served
-  pub stored : (strict : Bool) → last_stored call (config strict) fresh key none storing ≡ some page
+  pub stored : (strict : Bool) → last_stored call (config strict) fresh key None storing ≡ Some page
   pub chunk : (strict : Bool) → served_chunk (asked strict).answer (asked strict).world.response ≡ 68 ∷ []

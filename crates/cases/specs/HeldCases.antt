@@ -1,6 +1,5 @@
 -- The figure of the bytes held: call by call, as one row, and off the limits. Plain mode, T 64, lifetime 100, U and V 64, from a fresh table on.
-use Rattle.std.specs.Prelude.{ℕ, false, List, [], ◌∷◌, replicate}
-use Rattle.std.proofs.Math.Option.{Option, none, some}
+use Rattle.std.specs.Prelude.{ℕ, false, List, [], ◌∷◌, replicate, Option, Some, None}
 use Rattle.config.specs.declared.Config.{Config}
 use Rattle.block_state.specs.Message.{request, response}
 use Rattle.block_table.specs.declared.Table.{Table}
@@ -29,23 +28,23 @@ figures c w (q ∷ rest) = (call c w q).world.table.held ∷ figures c (call c w
 
 -- A table that claims to hold n bytes, though it holds 16.
 abbrev pub claims : ℕ → Table
-claims n = let t = (call brief empty (asks 0 1 20 (some (0x08 ∷ [])) none 16)).world.table in record { clock = t.clock; held = n; entries = t.entries }
+claims n = let t = (call brief empty (asks 0 1 20 (Some (0x08 ∷ [])) None 16)).world.table in record { clock = t.clock; held = n; entries = t.entries }
 
 abbrev pub held_cases : List Row
 held_cases =
     lists
     (figures brief empty (
     -- Block 0 is taken: 16 bytes. Key 2: 40 bytes are cached under a head of 2; then 33 under a head of 1 in their place; the last chunk is served, and they are dropped.
-    asks 0 1 20 (some (0x08 ∷ [])) none 16 ∷ sends 1 2 2 40 ∷ sends 2 2 1 33 ∷ asks 3 2 20 none (some (0x20 ∷ [])) 0
+    asks 0 1 20 (Some (0x08 ∷ [])) None 16 ∷ sends 1 2 2 40 ∷ sends 2 2 1 33 ∷ asks 3 2 20 None (Some (0x20 ∷ [])) 0
     -- The last block hands 20 bytes on. Another block 0.
-    ∷ asks 4 1 20 (some (0x10 ∷ [])) none 4 ∷ asks 5 1 20 (some (0x08 ∷ [])) none 16
+    ∷ asks 4 1 20 (Some (0x10 ∷ [])) None 4 ∷ asks 5 1 20 (Some (0x08 ∷ [])) None 16
     -- Key 3: 40 bytes are cached, and 16 are taken; then the body is complete, and the chunk asked for is past the end (refusal 8).
-    ∷ sends 6 3 0 40 ∷ asks 7 3 20 (some (0x08 ∷ [])) none 16 ∷ asks 8 3 20 (some (0x10 ∷ [])) (some (0x90 ∷ [])) 4
+    ∷ sends 6 3 0 40 ∷ asks 7 3 20 (Some (0x08 ∷ [])) None 16 ∷ asks 8 3 20 (Some (0x10 ∷ [])) (Some (0x90 ∷ [])) 4
     -- A call before the clock (refusal 2). At 105 keys 1 and 2 are expired, and a call that gets refusal 4 frees them; at 300 key 3 is expired too, and key 4's request frees it.
-    ∷ asks 7 1 20 none none 0 ∷ asks 105 3 60 none none 0 ∷ asks 300 4 20 none none 0
+    ∷ asks 7 1 20 None None 0 ∷ asks 105 3 60 None None 0 ∷ asks 300 4 20 None None 0
     -- Three blocks are taken; then block 1 again with 4 bytes, so that 36 are left (case 9).
-    ∷ asks 301 5 20 (some (0x08 ∷ [])) none 16 ∷ asks 302 5 20 (some (0x18 ∷ [])) none 16 ∷ asks 303 5 20 (some (0x28 ∷ [])) none 16
-    ∷ asks 304 5 20 (some (0x18 ∷ [])) none 4
+    ∷ asks 301 5 20 (Some (0x08 ∷ [])) None 16 ∷ asks 302 5 20 (Some (0x18 ∷ [])) None 16 ∷ asks 303 5 20 (Some (0x28 ∷ [])) None 16
+    ∷ asks 304 5 20 (Some (0x18 ∷ [])) None 4
     ∷ []))
     (16 ∷ 58 ∷ 50 ∷ 16 ∷ 0 ∷ 16 ∷ 56 ∷ 72 ∷ 56 ∷ 56 ∷ 40 ∷ 0 ∷ 16 ∷ 32 ∷ 48 ∷ 36 ∷ [])
     -- A table with another figure is off the limits.

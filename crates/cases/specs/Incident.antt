@@ -1,11 +1,10 @@
 -- What happened, and why it does not happen in strict mode to a push as demand 3 has it, with no other call on the key between its blocks. A
 -- push was cancelled and sent again with a shorter list: the old list's tail was handed on
 -- behind the new one.
-use Rattle.std.specs.Prelude.{ℕ, ◌+◌, ◌-◌, ◌≤◌, Bool, true, false, ◌≡◌, List, [], ◌∷◌, ◌++◌, map, length, take, replicate}
+use Rattle.std.specs.Prelude.{ℕ, ◌+◌, ◌-◌, ◌≤◌, Bool, true, false, ◌≡◌, List, [], ◌∷◌, ◌++◌, map, length, take, replicate, Some, None}
 use Rattle.pieces.specs.Memory.{part}
 use Rattle.block_value.specs.Value.{size_of}
 use Rattle.negotiation.specs.Negotiation.{request_block}
-use Rattle.negotiation.specs.declared.MaybeBlock.TheVariants.{Absent, Given}
 use Rattle.config.specs.declared.Config.{Config}
 use Rattle.block_state.specs.declared.BlockState.{BlockState}
 use Rattle.block_state.specs.declared.Answer.TheVariants.{Continue, Handed}
@@ -26,9 +25,9 @@ use Rattle.cases.specs.Shams.{sent}
 
 -- A request that carries block j of exponent x, full, with no Block2, and leaves room for its size.
 pub record Carries (c : Config) (x j : ℕ) (more : Bool) (r : Request) : Type 0 where
-  pub numbered : request_block c r.block1 ≡ Given (block j more x)
+  pub numbered : request_block c r.block1 ≡ Some (block j more x)
   pub full : length r.payload ≡ size_of x
-  pub alone : request_block c r.block2 ≡ Absent
+  pub alone : request_block c r.block2 ≡ None
   pub room : r.bare + 12 + size_of x ≤ c.limit
 
 -- The state after the first of two requests, and after both.

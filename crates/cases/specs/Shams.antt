@@ -1,10 +1,9 @@
 -- Demand 3 is no empty promise: what it asks for can be given, in both modes, and the four sham handlers of document 01 break it, each in either mode: a handler that is a
 -- sham in plain mode alone, and all that it should be in strict mode, breaks it too; and the other way round.
-use Rattle.std.specs.Prelude.{ℕ, Bool, false, cond, true, ◌≡◌, List, [], ◌∷◌, map, replicate, eqb}
-use Rattle.std.proofs.Math.Option.{none, some}
+use Rattle.std.specs.Prelude.{ℕ, Bool, false, cond, true, ◌≡◌, List, [], ◌∷◌, map, replicate, eqb, Option, Some, None}
+use Rattle.refusal.specs.declared.Refusal.TheVariants.{OffLimits}
+use Rattle.block_value.specs.declared.BlockValue.{BlockValue}
 use Rattle.negotiation.specs.Negotiation.{request_block}
-use Rattle.negotiation.specs.declared.MaybeBlock.{MaybeBlock}
-use Rattle.negotiation.specs.declared.MaybeBlock.TheVariants.{Absent, Given}
 use Rattle.config.specs.declared.Config.{Config}
 use Rattle.block_state.specs.declared.Kind.{Kind}
 use Rattle.block_state.specs.declared.Answer.{Answer}
@@ -33,7 +32,7 @@ abbrev pub key : Name
 key = 1 ∷ []
 
 abbrev pub sent : ℕ → List ℕ → List ℕ → Sent
-sent time option payload = record { time = time; message = record { bare = 20; block1 = some option; block2 = none; payload = payload } }
+sent time option payload = record { time = time; message = record { bare = 20; block1 = Some option; block2 = None; payload = payload } }
 
 -- Two blocks: one full and marked "more", and a shorter one.
 abbrev pub first_block : Sent
@@ -120,7 +119,7 @@ StoresNothing strict h = (c : Config) (w : World) (q : Call) → c.strict ≡ st
 abbrev pub HandsAtZero : Bool → Handler → Type 0
 HandsAtZero strict h =
     (c : Config) (w : World) (k : Name) (s : Sent) (more : Bool) (x : ℕ) → c.strict ≡ strict → within_limits c w (call_on k s) ≡ true
-    → request_block c s.message.block1 ≡ Given (block 0 more x)
+    → request_block c s.message.block1 ≡ Some (block 0 more x)
     → (said (h c w (call_on k s)).answer).kind ≡ handed
 
 abbrev pub BreaksDemand3 : (Bool → Handler → Type 0) → Type 0
@@ -134,7 +133,7 @@ pub record Excluded : Type 0 where
 
 -- There are such handlers. The third does all that it should but store an upload, and the fourth stores as it should.
 abbrev pub refuser : Handler
-refuser c w q = done w (Refused 1)
+refuser c w q = done w (Refused OffLimits)
 
 abbrev pub passer : Handler
 passer c w q = done w Pass
@@ -143,13 +142,13 @@ abbrev pub forgetter : Handler
 forgetter c w q =
     done (record { table = (call c w q).world.table; upload = w.upload; response = (call c w q).world.response }) (call c w q).answer
 
-abbrev pub nod : MaybeBlock → Answer
-nod Absent = Pass
-nod (Given b) = cond (eqb b.num 0) (Handed b (bytes_from 0 16)) (Continue b)
+abbrev pub nod : Option BlockValue → Answer
+nod None = Pass
+nod (Some b) = cond (eqb b.num 0) (Handed b (bytes_from 0 16)) (Continue b)
 
-abbrev pub block1_of : Config → What → MaybeBlock
+abbrev pub block1_of : Config → What → Option BlockValue
 block1_of c (request r) = request_block c r.block1
-block1_of c (response r) = Absent
+block1_of c (response r) = None
 
 abbrev pub nodder : Handler
 nodder c w q = done (call c w q).world (nod (block1_of c q.what))

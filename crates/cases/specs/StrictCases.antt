@@ -1,6 +1,7 @@
 -- Cases of strict mode, beside document 01's cases 1 to 12, as rows of a table of their own (T 1152, U 64, bare 20). The block value of an answer is the reply's: its "more" is
 -- as negotiated, not as sent.
 use Rattle.std.specs.Prelude.{true, false, List, [], ◌∷◌, replicate}
+use Rattle.refusal.specs.declared.Refusal.TheVariants.{NotNext, BadForm}
 use Rattle.block_state.specs.declared.BlockState.{BlockState}
 use Rattle.block_state.specs.declared.Answer.TheVariants.{Continue, Handed, Refused}
 use Rattle.apart.specs.Answers.{said}
@@ -19,12 +20,12 @@ kept_larger = with_assembled nothing (assembly 32 1)
 abbrev pub strict_cases : List Row
 strict_cases =
     -- L 32 kept at size 16, num 1 of size 32: it starts at L, but its exponent rises. Refusal 9; plain mode takes it.
-    answers (step true kept (replicate 64 1) (0x19 ∷ []) (replicate 32 2)).answer (Refused 9)
+    answers (step true kept (replicate 64 1) (0x19 ∷ []) (replicate 32 2)).answer (Refused NotNext)
     ∷ answers (step false kept (replicate 64 1) (0x19 ∷ []) (replicate 32 2)).answer (Continue (block 1 false 1))
     -- Nor is it taken as the last block.
-    ∷ answers (step true kept (replicate 64 1) (0x11 ∷ []) (replicate 4 2)).answer (Refused 9)
+    ∷ answers (step true kept (replicate 64 1) (0x11 ∷ []) (replicate 4 2)).answer (Refused NotNext)
     -- Num 1 of size 16: an earlier offset. Refusal 9; plain mode takes it.
-    ∷ answers (step true kept (replicate 64 1) (0x18 ∷ []) (replicate 16 2)).answer (Refused 9)
+    ∷ answers (step true kept (replicate 64 1) (0x18 ∷ []) (replicate 16 2)).answer (Refused NotNext)
     ∷ answers (step false kept (replicate 64 1) (0x18 ∷ []) (replicate 16 2)).answer (Continue (block 1 false 0))
     -- Num 2 of size 16: the next. Taken.
     ∷ answers (step true kept (replicate 64 1) (0x28 ∷ []) (replicate 16 2)).answer (Continue (block 2 false 0))
@@ -32,7 +33,7 @@ strict_cases =
     ∷ answers (step true kept_larger (replicate 64 1) (0x28 ∷ []) (replicate 16 2)).answer (Continue (block 2 false 0))
     ∷ number (step true kept_larger (replicate 64 1) (0x28 ∷ []) (replicate 16 2)).state.assembled.exponent 0
     -- Num 1 of size 16, which follows by its number alone: it falls, but starts at 16. Refusal 9.
-    ∷ answers (step true kept_larger (replicate 64 1) (0x18 ∷ []) (replicate 16 2)).answer (Refused 9)
+    ∷ answers (step true kept_larger (replicate 64 1) (0x18 ∷ []) (replicate 16 2)).answer (Refused NotNext)
     -- The last block may be of a smaller size, and may be empty.
     ∷ answers (step true kept_larger (replicate 64 1) (0x20 ∷ []) (replicate 4 2)).answer (Handed (block 2 false 0) (bytes_from 0 36))
     ∷ answers (step true kept_larger (replicate 64 1) (0x20 ∷ []) []).answer (Handed (block 2 false 0) (bytes_from 0 32))
@@ -41,18 +42,18 @@ strict_cases =
     ∷ number (step true kept (replicate 64 1) (0x09 ∷ []) (replicate 32 2)).state.assembled.exponent 1
     ∷ answers (step true kept_larger (replicate 64 1) [] (replicate 4 2)).answer (Handed (block 0 false 0) (bytes_from 0 4))
     -- Exponent 7 with a short unmarked payload, num 0. Refusal 10; plain mode takes it.
-    ∷ answers (step true nothing (replicate 64 1) (0x07 ∷ []) (replicate 4 2)).answer (Refused 10)
+    ∷ answers (step true nothing (replicate 64 1) (0x07 ∷ []) (replicate 4 2)).answer (Refused BadForm)
     ∷ answers (step false nothing (replicate 64 1) (0x07 ∷ []) (replicate 4 2)).answer (Handed (block 0 false 6) (bytes_from 0 4))
     -- A payload longer than its size; one that is marked and short. Refusal 10.
-    ∷ answers (step true nothing (replicate 64 1) [] (replicate 17 2)).answer (Refused 10)
-    ∷ answers (step true nothing (replicate 64 1) (0x08 ∷ []) (replicate 15 2)).answer (Refused 10)
+    ∷ answers (step true nothing (replicate 64 1) [] (replicate 17 2)).answer (Refused BadForm)
+    ∷ answers (step true nothing (replicate 64 1) (0x08 ∷ []) (replicate 15 2)).answer (Refused BadForm)
     -- Both faults at once: nothing assembled, num 1, marked and short. Refusal 10, not 9.
-    ∷ answers (step true nothing (replicate 64 1) (0x18 ∷ []) (replicate 15 2)).answer (Refused 10)
+    ∷ answers (step true nothing (replicate 64 1) (0x18 ∷ []) (replicate 15 2)).answer (Refused BadForm)
     -- "In either mode that of the last block taken": plain mode, too, keeps the exponent of a block of 32 bytes, of one that rises and of one that falls.
     ∷ number (step false nothing (replicate 64 1) (0x09 ∷ []) (replicate 32 2)).state.assembled.exponent 1
     ∷ number (step false kept (replicate 64 1) (0x19 ∷ []) (replicate 32 2)).state.assembled.exponent 1
     ∷ number (step false kept_larger (replicate 64 1) (0x28 ∷ []) (replicate 16 2)).state.assembled.exponent 0
     -- Refusal 9 is 4.08, and 10 is 4.00.
-    ∷ number (said (Refused 9)).code 136
-    ∷ number (said (Refused 10)).code 128
+    ∷ number (said (Refused NotNext)).code 136
+    ∷ number (said (Refused BadForm)).code 128
     ∷ []

@@ -17,7 +17,8 @@ struct Printed {
     written: bool,
 }
 
-// How many lines were printed and how many of them are unreadable, where the text starts that has not ended, and whether all was written.
+// How many lines were printed and how many of them are unreadable, where the text starts that has not ended, and whether all was written: a flag
+// beside them, since they count after a failed write too.
 #[derive(Clone, Copy)]
 struct Rest {
     number: u64,
@@ -27,19 +28,13 @@ struct Rest {
 }
 
 // The text of the longest line.
-fn digits_buffer() -> [u8; 131070] {
-    [0; 131070]
-}
+const DIGITS: usize = 131070;
 
 // The bytes of the longest line.
-fn bytes_buffer() -> [u8; 65535] {
-    [0; 65535]
-}
+const BYTES: usize = 65535;
 
 // What the longest line says: 8 bytes for each of its bytes, and 64. Why a line is unreadable has room behind it.
-fn output_buffer() -> [u8; 524428] {
-    [0; 524428]
-}
+const OUTPUT: usize = 524428;
 
 // Each line is written at once, so that none waits for the next. What is written stands at the start of the output.
 fn print_line(
@@ -67,10 +62,7 @@ fn print_line(
 fn counted(unread: u64, more: bool) -> u64
     ensures { result ≡ (unread + (if more then 1 else 0)) % 2 ^ 64 }
 {
-    if more {
-        return std::num::wrapping_add_u64(unread, 1);
-    }
-    unread
+    unread.wrapping_add(u64::from(more))
 }
 
 // Prints each line that has ended in the text, up to a write that fails, and counts on. No contract can say what is written.
@@ -89,7 +81,7 @@ fn print_lines(
     let mut from = 0;
     let mut end = script_cut::mark_from(text, 0, b'\n');
     while end < text.len() {
-        number = std::num::wrapping_add_u64(number, 1);
+        number = number.wrapping_add(1);
         let printed = print_line(number, &text[from..end], digits, bytes, out);
         unreadable = counted(unreadable, printed.unread);
         if !printed.written {
@@ -135,10 +127,10 @@ fn print_last(
     ensures unreadable_value { (result.unreadable ≡ (so_far.unreadable + unread_in (text.now ∷ [])) % 2 ^ 64) × (result.read_failed ≡ failed) }
     ensures says { 0 < length text.now → Says ((so_far.number + 1) % 2 ^ 64) text.now out.new }
 {
-    if text.len() == 0 {
+    if text.is_empty() {
         return stopped(so_far, failed);
     }
-    let number = std::num::wrapping_add_u64(so_far.number, 1);
+    let number = so_far.number.wrapping_add(1);
     let last = print_line(number, text, digits, bytes, out);
     Ending {
         unreadable: counted(so_far.unreadable, last.unread),
@@ -186,9 +178,9 @@ fn run<R: Read>(
 fn main(rt: HostRuntime) {
     let mut input = rt.stdin();
     let mut text = line_input::text();
-    let mut digits = digits_buffer();
-    let mut bytes = bytes_buffer();
-    let mut out = output_buffer();
+    let mut digits = buffers::zeros::<DIGITS>();
+    let mut bytes = buffers::zeros::<BYTES>();
+    let mut out = buffers::zeros::<OUTPUT>();
     let ended = run(&mut input, &mut text, &mut digits, &mut bytes, &mut out);
     ending::end(b"coapdump", ended);
 }

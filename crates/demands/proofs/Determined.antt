@@ -5,11 +5,12 @@
 -- state, a piece and an answer: `step-determined`. `extending_splice` ensures an equation of its answer and one of the piece by that answer:
 -- `splice-determined`. Every other public function of the handler but `request_change` and `response_change` (docs/PROMISES.md, "One result") ensures an equation
 -- of its result, r ≡ .. or now r ≡ .., or of the one memory that it changes, now mem.exit ≡ .. (with a bound beside it in places): `one-result`.
+use Rattle.std.specs.Prelude.{Result}
 use mathlib.Core.Path.{◌≡◌, sym, ap, ◌∙◌}
 use mathlib.Core.List.{List}
 use Prim.Native.Nat.{ℕ}
+use Rattle.refusal.specs.declared.Refusal.{Refusal}
 use Rattle.splicing.specs.Splice.{left_by}
-use Rattle.splicing.specs.declared.Splice.{Splice}
 use Rattle.config.specs.declared.Config.{Config}
 use Rattle.block_state.specs.declared.BlockState.{BlockState}
 use Rattle.block_state.specs.declared.Answer.{Answer}
@@ -45,8 +46,8 @@ step-determined g s s' p p' a a' m n =
     let e : left s p a ≡ left s' p' a' = one-result m n in
     (ap (λ (l : Left). l.state) e, ap (λ (l : Left). l.piece) e, ap (λ (l : Left). l.answer) e)
 
-pub splice-determined : (x r r' : Splice) (piece p p' : List ℕ) (l a s : ℕ) (payload : List ℕ) → r ≡ x → r' ≡ x
+pub splice-determined : (x r r' : Result ℕ Refusal) (piece p p' : List ℕ) (l a s : ℕ) (payload : List ℕ) → r ≡ x → r' ≡ x
     → p ≡ left_by r piece l a s payload → p' ≡ left_by r' piece l a s payload → (r ≡ r') × (p ≡ p')
 splice-determined x r r' piece p p' l a s payload m n e f =
     let same : r ≡ r' = one-result m n in
-    (same, e ∙ ap (λ (y : Splice). left_by y piece l a s payload) same ∙ sym f)
+    (same, e ∙ ap (λ (y : Result ℕ Refusal). left_by y piece l a s payload) same ∙ sym f)

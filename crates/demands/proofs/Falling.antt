@@ -1,4 +1,5 @@
 -- Blocks of one size are blocks whose sizes never rise; and where such blocks end, any smaller one can start. Assumes nothing.
+use Rattle.std.specs.Prelude.{Some}
 use Prim.Native.Nat.{ℕ, zero, suc, ◌+◌, ◌-◌, ◌*◌, ◌^◌, ◌≤◌, ◌<◌}
 use mathlib.Core.Bool.{true}
 use mathlib.Core.Path.{◌≡◌, ◌∙◌}
@@ -8,7 +9,6 @@ use lib.ListN.{length}
 use Rattle.block_value.specs.Value.{size_of}
 use Rattle.block_value.proofs.Laws.{size-smaller, size-least}
 use Rattle.negotiation.specs.Negotiation.{request_block}
-use Rattle.negotiation.specs.declared.MaybeBlock.TheVariants.{Given}
 use Rattle.config.specs.Mode.{byte_limit, nums}
 use Rattle.block_state.specs.Message.{Request}
 use Rattle.demands.specs.Demand3.{block, Demand3}
@@ -25,7 +25,7 @@ start-same x (suc j) = omega (arith, start-same x j)
 pub one_size_lem : OneSize
 one_size_lem c x first rest b =
     record {
-      numbered = each_map (λ j more r. request_block c r.block1 ≡ Given (block j more x)) (λ j more r. StartsAt c (start_of (λ i. x) j) x more r) (nums c.strict)
+      numbered = each_map (λ j more r. request_block c r.block1 ≡ Some (block j more x)) (λ j more r. StartsAt c (start_of (λ i. x) j) x more r) (nums c.strict)
           (λ j more r few reads. record { num = j; starts = start-same x j; limit = few; reads = reads }) 0 first rest (omega (arith, b.count)) b.numbered;
       size = b.size;
       falls = λ j h. omega arith;

@@ -1,5 +1,6 @@
 -- The client's next block at its entry: what one step leaves and answers, exactly, for every size and in either mode. It speaks of offsets: where the block starts,
 -- and how much is assembled. Assumes nothing.
+use Rattle.std.specs.Prelude.{Some, None, Ok}
 use Prim.Native.Nat.{ℕ, ◌+◌, ◌/◌, ◌≤◌, ◌<◌}
 use mathlib.Core.Bool.{Bool, true, false, ◌&&◌}
 use mathlib.Core.Path.{◌≡◌, refl, sym, ◌∙◌, ap}
@@ -11,7 +12,6 @@ use lib.ListN.{length, take, length-append}
 use borrow.Author.Tests.{le-ltb, ne_eqb}
 use Rattle.pieces.specs.Memory.{patch, part}
 use Rattle.splicing.specs.Splice.{spliced_length, splice_of, piece_after}
-use Rattle.splicing.specs.declared.Splice.TheVariants.{Body}
 use Rattle.pieces.proofs.Memory.{part-patch}
 use Rattle.splicing.proofs.Splicing.{spliced-next}
 use Rattle.splicing.proofs.Splicing as splicing
@@ -19,8 +19,6 @@ use Rattle.block_value.specs.Value.{block_size, block_start}
 use Rattle.block_value.specs.declared.BlockValue.{BlockValue}
 use Rattle.block_value.proofs.Laws.{size-least, size-most}
 use Rattle.negotiation.specs.Negotiation.{request_block}
-use Rattle.negotiation.specs.declared.MaybeBlock.TheVariants.{Absent, Given}
-use Rattle.negotiation.specs.declared.Negotiated.TheVariants.{Block}
 use Rattle.config.specs.declared.Config.{Config}
 use Rattle.config.specs.Mode.{num_limit}
 use Rattle.block_state.specs.declared.Assembled.{Assembled}
@@ -51,35 +49,35 @@ fills-most false p size h = h
 -- it is well formed, and a reply was agreed on
 pub record OneBlock (c : Config) (b : BlockValue) (r : Request) : Type 0 where
   pub size : b.size_exponent ≤ 6
-  pub numbered : request_block c r.block1 ≡ Given b
+  pub numbered : request_block c r.block1 ≡ Some b
   pub full : Fills b.more (length r.payload) (block_size b)
-  pub alone : request_block c r.block2 ≡ Absent
+  pub alone : request_block c r.block2 ≡ None
   pub bare : r.bare ≤ c.limit
   pub reply : BlockValue
-  pub agreed : request_agrees c r ≡ Block reply
+  pub agreed : request_agrees c r ≡ Ok (Some reply)
 
 pub form-ok : (c : Config) (b : BlockValue) (r : Request) → OneBlock c b r → (c.strict && bad_form b (length r.payload)) ≡ false
 form-ok c b r one =
     let p : ℕ = length r.payload in
     and_none c.strict _ (bad-not b p (well-formed b p one.size (fills-most b.more _ _ one.full) (λ more. rw more at one.full)))
 
-module _ (c : Config) (b : BlockValue) (r : Request) (numbered : request_block c r.block1 ≡ Given b) (size : b.size_exponent ≤ 6) where
+module _ (c : Config) (b : BlockValue) (r : Request) (numbered : request_block c r.block1 ≡ Some b) (size : b.size_exponent ≤ 6) where
   -- a block that is left room comes out of the negotiation as it was asked, with no more, since its payload is no longer than its size
-  pub agreed-asked : b.num ≤ num_limit c.strict → length r.payload ≤ block_size b → r.bare + 12 + block_size b ≤ c.limit → request_agrees c r ≡ Block (unmarked b)
+  pub agreed-asked : b.num ≤ num_limit c.strict → length r.payload ≤ block_size b → r.bare + 12 + block_size b ≤ c.limit → request_agrees c r ≡ Ok (Some (unmarked b))
   agreed-asked count most room =
       let p : ℕ = length r.payload in
       rw numbered (pairing.asked c b r.bare p room count (omega arith) ∙ rw (le-ltb (block_start b + block_size b) p (omega arith)))
 
   -- block 0 comes out of it, smaller or not, where there is room for a byte
-  pub agreed-first : b.num ≡ 0 → r.bare + 12 < c.limit → (reply : BlockValue) × (request_agrees c r ≡ Block reply)
-  agreed-first first room = rw numbered (pairing.made c (Given b) r.bare (length r.payload) (omega arith) tt makeable)
+  pub agreed-first : b.num ≡ 0 → r.bare + 12 < c.limit → (reply : BlockValue) × (request_agrees c r ≡ Ok (Some reply))
+  agreed-first first room = rw numbered (pairing.made c (Some b) r.bare (length r.payload) (omega arith) tt makeable)
     where
-      makeable : Unmakeable c (Given b) (room_of c r.bare) → ⊥
+      makeable : Unmakeable c (Some b) (room_of c r.bare) → ⊥
       makeable (inl none) = omega (arith, size-least b.size_exponent)
       makeable (inr (inl large)) = omega (arith, size-most b.size_exponent)
       makeable (inr (inr far)) =
           let start : block_start b ≡ 0 = first-starts b first in
-          let zero : block_start b / granted (Given b) (room_of c r.bare) ≡ 0 = rw start (zero-div _) in
+          let zero : block_start b / granted (Some b) (room_of c r.bare) ≡ 0 = rw start (zero-div _) in
           omega arith
 
 -- ---- an upload under way
@@ -138,12 +136,12 @@ module _ (c : Config) (home away : ℕ) (s : BlockState) (u : List ℕ) (r : Req
   piece : piece_after u (length bytes) (block_start b) (block_size b) r.payload ≡ patch u 0 joins
   piece = rw meets.starts (appended u bytes (block_size b) r.payload meets.held)
 
-  body : splice_of c.upload (length bytes) (block_start b) (block_size b) (length r.payload) ≡ Body (length joins)
+  body : splice_of c.upload (length bytes) (block_start b) (block_size b) (length r.payload) ≡ Ok (length joins)
   body =
       let n = appended-length bytes (block_size b) r.payload in
       rw meets.starts
       (splicing.taken c.upload (length bytes) (length bytes) (block_size b) (length r.payload) (omega (arith, size-most b.size_exponent)) (omega arith)
-      ∙ ap Body n)
+      ∙ ap Ok n)
 
   pub own-more : b.more ≡ true
       → step_request c home away s u r ≡ left (with_assembled s (assembly (length joins) b.size_exponent)) (patch u 0 joins) (Continue one.reply)
@@ -153,7 +151,7 @@ module _ (c : Config) (home away : ℕ) (s : BlockState) (u : List ℕ) (r : Req
 
   pub own-last : b.more ≡ false
       → step_request c home away s u r
-      ≡ left (with_recorded (with_assembled s (assembly 0 0)) Absent) (patch u 0 joins) (Handed one.reply (bytes_from home (length joins)))
+      ≡ left (with_recorded (with_assembled s (assembly 0 0)) None) (patch u 0 joins) (Handed one.reply (bytes_from home (length joins)))
   own-last last =
       step-last c home away s u r b one.reply one.numbered one.agreed (form-ok c b r one) meets.passes (length bytes) meets.from
       (length joins) (patch u 0 joins) body piece last one.alone

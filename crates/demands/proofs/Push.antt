@@ -1,4 +1,5 @@
 -- A push, block by block: where it stands once its last block was taken, with any calls for other keys between. Assumes nothing.
+use Rattle.std.specs.Prelude.{None}
 use Prim.Native.Nat.{ℕ, zero, suc, ◌+◌, ◌-◌, ◌*◌, ◌≤◌, ◌<◌}
 use mathlib.Core.Bool.{Bool, true, false}
 use mathlib.Core.Path.{◌≡◌, refl, sym, ◌∙◌, ap, subst}
@@ -16,7 +17,6 @@ use Rattle.block_value.specs.Value.{size_of, block_start}
 use Rattle.block_value.specs.declared.BlockValue.{BlockValue}
 use Rattle.block_value.proofs.Laws.{size-most}
 use Rattle.negotiation.specs.Negotiation.{request_block}
-use Rattle.negotiation.specs.declared.MaybeBlock.TheVariants.{Absent}
 use Rattle.config.specs.declared.Config.{Config}
 use Rattle.config.proofs.Mode.{nums-made}
 use Rattle.block_state.specs.declared.BlockState.{BlockState}
@@ -343,7 +343,7 @@ abbrev pub BlockAt : Config → (ℕ → ℕ) → ℕ → Bool → Request → T
 BlockAt c x j more r = (num : ℕ) × (num * size_of (x j) ≡ start_of x j) × OneBlock c (block num more (x j)) r
 
 block_at : (c : Config) (x : ℕ → ℕ) (j : ℕ) (more : Bool) (r : Request) → x j ≤ 6 → StartsAt c (start_of x j) (x j) more r
-    → Fills more (length r.payload) (size_of (x j)) → request_block c r.block2 ≡ Absent → RoomAsked c j (size_of (x j)) r.bare → BlockAt c x j more r
+    → Fills more (length r.payload) (size_of (x j)) → request_block c r.block2 ≡ None → RoomAsked c j (size_of (x j)) r.bare → BlockAt c x j more r
 block_at c x zero more r six n full alone room =
     let b : BlockValue = block n.num more (x 0) in
     let a = agreed-first c b r n.reads six (starts_first b n.starts) room in
@@ -366,7 +366,7 @@ each-block c x first rest b = from 0 first rest b.size (λ i l h. b.falls i (ome
   where
     from : (j : ℕ) (s : Sent) (rest : List Sent) → x j ≤ 6 → FallsFrom x j (length rest)
         → Each (λ j more r. StartsAt c (start_of x j) (x j) more r) j s rest → Each (λ j more r. Fills more (length r.payload) (size_of (x j))) j s rest
-        → Each (λ j more r. request_block c r.block2 ≡ Absent) j s rest → Each (λ j more r. RoomAsked c j (size_of (x j)) r.bare) j s rest → Each (BlockAt c x) j s rest
+        → Each (λ j more r. request_block c r.block2 ≡ None) j s rest → Each (λ j more r. RoomAsked c j (size_of (x j)) r.bare) j s rest → Each (BlockAt c x) j s rest
     from j s [] six falls n f a r = block_at c x j false s.message six n f a r
     from j s (t ∷ rest) six falls n f a r = (
       block_at c x j true s.message six n.0 f.0 a.0 r.0,

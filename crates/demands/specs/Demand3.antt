@@ -3,11 +3,10 @@
 -- proofs/Demand3.antt, and of whatever satisfies the calls' contracts in proofs/Compiled.antt.
 -- To read it: `(i : ℕ) → ..` is "for every i", `(i : ℕ) × ..` is "there is an i", `×` is "and", `⊎` is "or", `cond b x y` is "if b then x else y",
 -- `Unit` asks nothing, `⊥` cannot be, and `(said a).kind` is the answer's name in document 01.
-use Rattle.std.specs.Prelude.{ℕ, suc, ◌+◌, ◌≤◌, ◌<◌, Bool, true, false, cond, ◌≡◌, ◌⊎◌, List, [], ◌∷◌, ◌++◌, map, length}
+use Rattle.std.specs.Prelude.{ℕ, suc, ◌+◌, ◌≤◌, ◌<◌, Bool, true, false, cond, ◌≡◌, ◌⊎◌, List, [], ◌∷◌, ◌++◌, map, length, Some, None}
 use Rattle.block_value.specs.Value.{size_of}
 use Rattle.block_value.specs.declared.BlockValue.{BlockValue}
 use Rattle.negotiation.specs.Negotiation.{request_block}
-use Rattle.negotiation.specs.declared.MaybeBlock.TheVariants.{Absent, Given}
 use Rattle.config.specs.declared.Config.{Config}
 use Rattle.config.specs.Mode.{nums}
 use Rattle.block_state.specs.declared.Answer.{Answer}
@@ -142,13 +141,13 @@ pub record Blocks (c : Config) (x : ℕ) (first : Sent) (rest : List Sent) : Typ
   -- `nums`, which is 4,096, and in strict mode 1,048,576. (It follows from `numbered`, an option's bytes being below 256, and is stated as the demand states it.)
   pub count : length (first ∷ rest) ≤ nums c.strict
   -- "All .. marked "more" but the last, which is .. unmarked": what the Block1 option of each reads as.
-  pub numbered : Each (λ j more r. request_block c r.block1 ≡ Given (block j more x)) 0 first rest
+  pub numbered : Each (λ j more r. request_block c r.block1 ≡ Some (block j more x)) 0 first rest
   -- "One size from 16 to 1024 bytes": 2 to the power x + 4.
   pub size : x ≤ 6
   -- "All full .. but the last, which is no longer".
   pub full : Each (λ j more r. Fills more (length r.payload) (size_of x)) 0 first rest
   -- "None carries Block2": none, or one that is unreadable and so counts as absent.
-  pub alone : Each (λ j more r. request_block c r.block2 ≡ Absent) 0 first rest
+  pub alone : Each (λ j more r. request_block c r.block2 ≡ None) 0 first rest
   -- "Each message leaves room for that size". Document 01: ""leaves room" means bare + 12 + size <= T"; bare is "the length of the message encoded with
   -- its payload taken out".
   pub room : Each (λ j more r. r.bare + 12 + size_of x ≤ c.limit) 0 first rest

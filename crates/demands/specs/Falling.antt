@@ -1,10 +1,9 @@
 -- DEMAND 3 FOR A SENDER THAT GOES SMALLER. Document 02: "Extend demand 3 to uploads whose size falls on the way, each block full for its own size and its num within T-03's
 -- limit." All is as in Demand3.antt but the client's blocks: `FallingBlocks` stands in place of `Blocks`. One size throughout is its special case (`OneSize`), so that demand 3
 -- follows from it (`Extends`). It holds in either mode: plain mode, too, takes a block that starts where the assembled bytes end, whatever its size.
-use Rattle.std.specs.Prelude.{ℕ, zero, suc, ◌+◌, ◌*◌, ◌≤◌, ◌<◌, Bool, true, ◌≡◌, List, ◌∷◌, length}
+use Rattle.std.specs.Prelude.{ℕ, zero, suc, ◌+◌, ◌*◌, ◌≤◌, ◌<◌, Bool, true, ◌≡◌, List, ◌∷◌, length, Some, None}
 use Rattle.block_value.specs.Value.{size_of}
 use Rattle.negotiation.specs.Negotiation.{request_block}
-use Rattle.negotiation.specs.declared.MaybeBlock.TheVariants.{Absent, Given}
 use Rattle.config.specs.declared.Config.{Config}
 use Rattle.config.specs.Mode.{nums}
 use Rattle.block_state.specs.Message.{Request}
@@ -28,7 +27,7 @@ pub record StartsAt (c : Config) (start x : ℕ) (more : Bool) (r : Request) : T
   -- .. "its num within T-03's limit": below `nums`, which is 1,048,576 in strict mode (and 4,096 in plain mode). (It follows from `reads`, an option's bytes being below 256.)
   pub limit : num < nums c.strict
   -- What its Block1 option reads as.
-  pub reads : request_block c r.block1 ≡ Given (block num more x)
+  pub reads : request_block c r.block1 ≡ Some (block num more x)
 
 -- Where blocks 0 to j end, none larger than the one before it, a block of any size up to the last one's has a num that takes it there: an offset reached by larger blocks is a
 -- multiple of every smaller size. And that num is within strict mode's limit wherever the largest piece, of 16,777,216 bytes, has room for a byte more.
@@ -55,7 +54,7 @@ pub record FallingBlocks (c : Config) (x : ℕ → ℕ) (first : Sent) (rest : L
   pub full : Each (λ j more r. Fills more (length r.payload) (size_of (x j))) 0 first rest
   pub room : Each (λ j more r. RoomAsked c j (size_of (x j)) r.bare) 0 first rest
   -- As in demand 3: none carries Block2; the body fits its piece; each block comes sooner than one lifetime after the last.
-  pub alone : Each (λ j more r. request_block c r.block2 ≡ Absent) 0 first rest
+  pub alone : Each (λ j more r. request_block c r.block2 ≡ None) 0 first rest
   pub fits : length (joined first rest) ≤ c.upload
   pub prompt : Prompt c.lifetime first.time rest
 

@@ -14,16 +14,17 @@ pub struct Ending {
     pub write_failed: bool,
 }
 
+#[tactic(auto, using(std::proofs::lemmas::Bool::Decides::nat_tests), unfolding(crate::specs::Ending::exit_code))]
 fn exit_code(ending: Ending) -> u8
     ensures { (result ≡ exit_code ending) × (result ≤ 2) }
 {
-    if ending.read_failed | ending.write_failed {
-        return 2;
+    if ending.read_failed || ending.write_failed {
+        2
+    } else if ending.unreadable == 0 {
+        0
+    } else {
+        1
     }
-    if ending.unreadable == 0 {
-        return 0;
-    }
-    1
 }
 
 // What is said of a failure, if there was one.
@@ -60,19 +61,17 @@ fn put_ending(out: &mut [u8], at: usize, program: &[u8], ending: Ending) -> usiz
     ensures put { Put out.old at (ending_text program.now ending) out.new result }
     ensures upper_bound { result ≤ length out.old }
 {
-    let read_failed = ending.read_failed;
-    let write_failed = ending.write_failed;
     let k = put_sentence(
         out,
         at,
-        read_failed,
+        ending.read_failed,
         program,
         b": cannot read standard input\n",
     );
     let l = put_sentence(
         out,
         k,
-        write_failed,
+        ending.write_failed,
         program,
         b": cannot write standard output\n",
     );
@@ -84,7 +83,7 @@ fn report_of(ending: Ending) -> [u8; 2]
     ensures value { result ≡ report_text ending }
     ensures value_2 { 2 ≡ length result }
 {
-    [48 + exit_code(ending), b'\n']
+    [b'0' + exit_code(ending), b'\n']
 }
 
 // Says how the program ended, and reports it. No contract can say what is written.

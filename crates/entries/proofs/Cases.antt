@@ -22,15 +22,6 @@ module _ (lifetime time : ℕ) (e : Entry) where
   unfolding live
   live-as b h = sym h
 
-module _ (lifetime time : ℕ) (k : Name) (e : Entry) where
-  pub held-expired : live lifetime time e ≡ false → holds_live lifetime time k e ≡ false
-  unfolding holds_live
-  held-expired h = rw h
-
-  pub held-as : (b : Bool) → live lifetime time e ≡ true → same k (key_of e.key) ≡ b → holds_live lifetime time k e ≡ b
-  unfolding holds_live
-  held-as b h s = rw (h, s)
-
 pub or-true : (b : Bool) → (b || true) ≡ true
 or-true true = refl
 or-true false = refl

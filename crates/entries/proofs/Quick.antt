@@ -1,6 +1,6 @@
 -- Laws of the quick tests of an entry: entries in use with one key have one tag. Assumes nothing.
 use mathlib.Core.Path.{◌≡◌}
-use mathlib.Core.Bool.{true, false, ◌&&◌, and-false}
+use mathlib.Core.Bool.{true, false, ◌&&◌}
 use Prim.Native.Nat.{ℕ}
 use Rattle.entries.specs.declared.Entry.{Entry}
 use Rattle.keys.specs.Keys.{Name, same, key_of, tag_of as key_tag}
@@ -9,21 +9,6 @@ use Rattle.entries.specs.Quick.{tag_of, holds_live}
 use Rattle.entries.proofs.Entries.{live-used}
 use Rattle.pieces.proofs.Tests.{ands, and_left, and_right, refute}
 use Rattle.keys.proofs.Keys.{same-eq}
-
--- ---- a clash
-
-module _ (e f : Entry) where
-  pub no-clash : e.used ≡ false → clash e f ≡ false
-  unfolding clash
-  no-clash h = rw h
-
-  pub no-clash-2 : f.used ≡ false → clash e f ≡ false
-  unfolding clash holds
-  no-clash-2 h = rw (h, and-false)
-
-  pub clash-as : e.used ≡ true → f.used ≡ true → clash e f ≡ same (key_of e.key) (key_of f.key)
-  unfolding clash holds
-  clash-as h k = rw (h, k)
 
 -- ---- entries that clash have one tag
 

@@ -8,7 +8,7 @@ ghost use Rattle.entries.specs.Entries.{free, start_from, entry_ok, clash, swept
 ghost use Rattle.entries.specs.Held.{held_by};
 ghost use Rattle.entries.specs.Quick.{tag_of, sized};
 
-use block_state::{Assembled, BlockState, Cached, Recorded};
+use block_state::BlockState;
 use config::Config;
 use keys::Key;
 use state_limits::Checked;
@@ -17,6 +17,7 @@ use state_limits::Checked;
 #[derive(Clone, Copy)]
 pub struct Entry {
     pub key: Key,
+    // A flag, and no Option of the rest, since C shares the layout.
     pub used: bool,
     pub touched: u64,
     pub state: BlockState,
@@ -28,11 +29,9 @@ fn used_checked(config: Config, clock: u64, e: Entry) -> Checked
     requires { e.used ≡ true }
     ensures { (result.ok ≡ entry_ok config clock e) × (result.bytes ≡ held_by e) × (result.bytes < 2 ^ 34) }
 {
-    let key = e.key;
-    let state = e.state;
-    let found = state_limits::state_checked(config, state);
+    let found = state_limits::state_checked(config, e.state);
     Checked {
-        ok: keys::stored_ok(key) & (e.touched <= clock) & found.ok,
+        ok: keys::stored_ok(e.key) & (e.touched <= clock) & found.ok,
         bytes: found.bytes,
     }
 }
@@ -41,9 +40,7 @@ fn free_ok(config: Config, clock: u64, e: Entry) -> bool
     requires { e.used ≡ false }
     ensures { (result ≡ entry_ok config clock e) × (key_sized e.key ≡ true) }
 {
-    let key = e.key;
-    let state = e.state;
-    keys::is_no_key(key) & (e.touched == 0) & state_limits::is_nothing(state)
+    keys::is_no_key(e.key) & (e.touched == 0) & state_limits::is_nothing(e.state)
 }
 
 // Whether an entry is within its limits, and what it holds.
@@ -64,24 +61,16 @@ pub fn tag(e: Entry, i: u32) -> u32
     ensures { result ≡ tag_of e i }
 {
     if e.used {
-        let key = e.key;
-        return keys::tag(key);
+        return keys::tag(e.key);
     }
     i * 2
 }
 
+#[tactic(auto, unfolding(crate::specs::Entries::clash, crate::specs::Entries::holds))]
 pub fn clashes(e: Entry, f: Entry) -> bool
     ensures { result ≡ clash e f }
 {
-    if !e.used {
-        return false;
-    }
-    if !f.used {
-        return false;
-    }
-    let a = e.key;
-    let b = f.key;
-    keys::same_key(a, b)
+    e.used && f.used && keys::same_key(e.key, f.key)
 }
 
 // ---- The bytes held
@@ -91,46 +80,21 @@ pub fn held_by(e: Entry) -> u64
     ensures { (result ≡ held_by e) × (result < 2 ^ 34) }
 {
     if e.used {
-        let state = e.state;
-        return state_limits::held_of(state);
+        return state_limits::held_of(e.state);
     }
     0
 }
 
 // ---- Expiry
 
-fn empty_state() -> BlockState
-    ensures { result ≡ nothing }
-{
-    BlockState {
-        assembled: Assembled {
-            len: 0,
-            exponent: 0,
-        },
-        cached: Cached {
-            held: false,
-            head: 0,
-            payload: 0,
-        },
-        recorded: Recorded {
-            given: false,
-            more: false,
-            exponent: 0,
-            num: 0,
-        },
-    }
-}
-
 pub fn free_entry() -> Entry
     ensures { result ≡ free }
 {
-    let key = keys::no_key();
-    let state = empty_state();
     Entry {
-        key: key,
+        key: keys::no_key(),
         used: false,
         touched: 0,
-        state: state,
+        state: BlockState::default(),
     }
 }
 
@@ -152,11 +116,9 @@ pub fn start_from(e: Entry, key: Key) -> Entry
     if e.used {
         return e;
     }
-    let state = empty_state();
     Entry {
-        key: key,
+        key,
         used: true,
-        touched: 0,
-        state: state,
+        ..free_entry()
     }
 }

@@ -15,10 +15,7 @@ fn put_key(out: &mut [u8], at: usize, bytes: [u8; 64], n: usize) -> usize
     ensures put { Put out.old at (hex (take n bytes)) out.new result }
     ensures upper_bound { result ≤ at + 128 }
 {
-    if n <= 64 {
-        return script_text::put_hex(out, at, &bytes[0..n]);
-    }
-    script_text::put_hex(out, at, &bytes)
+    script_text::put_hex(out, at, &bytes[..n.min(64)])
 }
 
 fn put_pair(out: &mut [u8], at: usize, first: u64, between: u8, second: u64) -> usize
@@ -31,6 +28,7 @@ fn put_pair(out: &mut [u8], at: usize, first: u64, between: u8, second: u64) -> 
     script_text::put_decimal(out, k, second)
 }
 
+#[tactic(auto, unfolding(crate::specs::Entry::cached_text))]
 fn put_cached(out: &mut [u8], at: usize, cached: Cached) -> usize
     requires { at + 41 ≤ length out.old }
     ensures put { Put out.old at (cached_text cached) out.new result }
@@ -39,7 +37,9 @@ fn put_cached(out: &mut [u8], at: usize, cached: Cached) -> usize
     if !cached.held {
         return pieces::put_byte(out, at, b'-');
     }
-    put_pair(out, at, cached.head as u64, b'+', cached.payload as u64)
+    let head = u64::from(cached.head);
+    let payload = u64::from(cached.payload);
+    put_pair(out, at, head, b'+', payload)
 }
 
 // INDEX,KEY,TOUCHED
@@ -48,10 +48,9 @@ fn put_who(out: &mut [u8], at: usize, i: u64, key: Key, touched: u64) -> usize
     ensures put { Put out.old at (who_text i key touched) out.new result }
     ensures upper_bound { result ≤ at + 200 }
 {
-    let bytes = key.bytes;
     let k = script_text::put_decimal(out, at, i);
     let k = pieces::put_byte(out, k, b',');
-    let k = put_key(out, k, bytes, wide::usize_of_u8(key.len));
+    let k = put_key(out, k, key.bytes, usize::from(key.len));
     let k = pieces::put_byte(out, k, b',');
     script_text::put_decimal(out, k, touched)
 }
@@ -63,19 +62,17 @@ fn put_what(out: &mut [u8], at: usize, state: BlockState) -> usize
     ensures upper_bound { result ≤ at + 199 }
 {
     let assembled = state.assembled;
-    let cached = state.cached;
-    let recorded = state.recorded;
     let k = put_pair(
         out,
         at,
-        assembled.len as u64,
+        u64::from(assembled.len),
         b',',
-        assembled.exponent as u64,
+        u64::from(assembled.exponent),
     );
     let k = pieces::put_byte(out, k, b',');
-    let k = put_cached(out, k, cached);
+    let k = put_cached(out, k, state.cached);
     let k = pieces::put_byte(out, k, b',');
-    script_text::put_maybe(out, k, state::recorded_block(recorded))
+    script_text::put_maybe(out, k, state::recorded_block(state.recorded))
 }
 
 pub fn put_entry(out: &mut [u8], at: usize, i: u64, e: Entry) -> usize
@@ -83,9 +80,7 @@ pub fn put_entry(out: &mut [u8], at: usize, i: u64, e: Entry) -> usize
     ensures put { Put out.old at (entry_text i e) out.new result }
     ensures upper_bound { result ≤ at + 400 }
 {
-    let key = e.key;
-    let state = e.state;
-    let k = put_who(out, at, i, key, e.touched);
+    let k = put_who(out, at, i, e.key, e.touched);
     let k = pieces::put_byte(out, k, b',');
-    put_what(out, k, state)
+    put_what(out, k, e.state)
 }

@@ -26,6 +26,5 @@ fn main() {
         b"",
         b"milk 1.19\n",
     );
-    let answer = out.answer;
-    io::write_all(1, answers::body(answer, b"milk 1.19\n", &upload));
+    io::write_all(1, answers::body(out.answer, b"milk 1.19\n", &upload));
 }

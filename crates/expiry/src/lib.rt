@@ -4,14 +4,8 @@
 ghost use Rattle.std.specs.Prelude.{◌≡◌, ◌-◌};
 ghost use Rattle.expiry.specs.Expiry.{live_by};
 
-fn age(touched: u64, time: u64) -> u64
-    ensures { result ≡ time - touched }
-{
-    if touched <= time { time - touched } else { 0 }
-}
-
 pub fn is_live(used: bool, touched: u64, lifetime: u64, time: u64) -> bool
     ensures { result ≡ live_by used touched lifetime time }
 {
-    used & (age(touched, time) < lifetime)
+    used & (time.saturating_sub(touched) < lifetime)
 }

@@ -19,20 +19,17 @@ pub fn begin(
     requires { (memory_size ≤ length upload.old) × (memory_size ≤ length response.old) × (step.at + line_room ≤ length out.old) }
     ensures { Left (fresh_in config) step upload.old response.old out.old result upload.new response.new out.new }
 {
-    let state = step.state;
-    let number = state.number;
     let u = buffers::memory_of(config.upload);
     let v = buffers::memory_of(config.response);
     pieces::zero_fill(upload, 0, u);
     pieces::zero_fill(response, 0, v);
-    let at = replay_control::put_config(out, step.at, number);
+    let at = replay_control::put_config(out, step.at, step.state.number);
     let table = block_table::fresh();
     Step {
         state: State {
             config,
             table,
-            number,
-            unreadable: state.unreadable,
+            ..step.state
         },
         at,
         written: step.written,

@@ -6,6 +6,7 @@ ghost use Rattle.pieces.specs.Memory.{Put};
 ghost use Rattle.gathering.specs.Gather.{sum, Short, gathered, scattered};
 
 // Puts the first bytes of each piece, as many as its length says, at an index, one after another, and answers the next index.
+#[tactic(auto, using(crate::proofs::Turns::piece_end))]
 pub fn gather(
     out: &mut [u8],
     start: usize,
@@ -19,17 +20,16 @@ pub fn gather(
     ensures { (Put out.old start (gathered size memory.now 0 lengths) out.new result) × (result ≡ start + sum lengths) }
 {
     let mut to = start;
-    let mut i = 0;
-    while i < 16 {
+    for (i, n) in lengths.iter().enumerate() {
         let home = i * size;
-        let end = home + lengths[i];
+        let end = home + *n;
         to = pieces::put(out, to, &memory[home..end]);
-        i += 1;
     }
     to
 }
 
 // Copies bytes, from an index on, to the start of each piece, as many as its length says.
+#[tactic(auto, using(crate::proofs::Turns::piece_end, crate::proofs::Turns::sum_step, crate::proofs::Turns::scatter_step))]
 pub fn scatter(memory: &mut [u8], size: usize, lengths: [usize; 16], bytes: &[u8], start: usize)
     requires memory_len { length memory.old ≡ 16 * size }
     requires short { Short size lengths }
@@ -37,11 +37,9 @@ pub fn scatter(memory: &mut [u8], size: usize, lengths: [usize; 16], bytes: &[u8
     ensures { memory.new ≡ scattered size memory.old 0 lengths (drop start bytes.now) }
 {
     let mut at = start;
-    let mut i = 0;
-    while i < 16 {
-        let end = at + lengths[i];
+    for (i, n) in lengths.iter().enumerate() {
+        let end = at + *n;
         pieces::copy_in(memory, i * size, &bytes[at..end]);
         at = end;
-        i += 1;
     }
 }

@@ -9,12 +9,11 @@ ghost use Rattle.replies.specs.Found.{found_in, body_in, served_head_in, chunk_i
 ghost use Rattle.handler_c.specs.Options.{block_read};
 ghost use Rattle.handler_c.specs.Contract.{Replies};
 
-use block_option::{Reading, Written};
+use block_option::Written;
 use block_state::{Recorded, RequestNumbers, ResponseNumbers, state};
 use block_table::Table;
 use block_value::BlockValue;
 use config::Config;
-use negotiation::MaybeBlock;
 use replies::{Found, Reply};
 
 pub fn block_handler_default_config(strict: bool, upload: usize, response: usize) -> Config
@@ -40,10 +39,7 @@ pub fn block_handler_bytes_held(table: &Table) -> u64
 pub fn block_handler_read(strict: bool, option: &[u8]) -> Recorded
     ensures { result ≡ block_read (read_of strict option.now) }
 {
-    let Reading::Value(block) = block_option::read(strict, option) else {
-        return state::recording_of(MaybeBlock::Absent);
-    };
-    state::recording_of(MaybeBlock::Given(block))
+    state::recording_of(block_option::read(strict, option))
 }
 
 pub fn block_handler_write(strict: bool, num: u32, more: bool, exponent: u8) -> Written

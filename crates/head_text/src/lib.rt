@@ -5,32 +5,30 @@ ghost use Rattle.std.specs.Prelude.{◌≡◌, [], ◌∷◌, ◌++◌, ◌+◌,
 ghost use Rattle.pieces.specs.Memory.{Put};
 ghost use Rattle.head_text.specs.Head.{type_text, code_text, head_text};
 
-// The type, between spaces.
+// The type, between spaces. It is a number, as the packet has it and as it crosses to C.
+#[tactic(auto, unfolding(crate::specs::Head::type_text))]
 fn type_field(kind: u8) -> [u8; 5]
     ensures { result ≡ 32 ∷ type_text kind ++ (32 ∷ []) }
 {
-    if kind == 0 {
-        return [b' ', b'C', b'O', b'N', b' '];
+    match kind {
+        0 => *b" CON ",
+        1 => *b" NON ",
+        2 => *b" ACK ",
+        _ => *b" RST ",
     }
-    if kind == 1 {
-        return [b' ', b'N', b'O', b'N', b' '];
-    }
-    if kind == 2 {
-        return [b' ', b'A', b'C', b'K', b' '];
-    }
-    [b' ', b'R', b'S', b'T', b' ']
 }
 
 // The code, and a space.
+#[tactic(auto, unfolding(crate::specs::Head::code_text))]
 fn code_field(code: u8) -> [u8; 5]
     ensures { result ≡ code_text code ++ (32 ∷ []) }
 {
     let detail = code % 32;
     [
-        48 + code / 32,
+        b'0' + code / 32,
         b'.',
-        48 + detail / 10,
-        48 + detail % 10,
+        b'0' + detail / 10,
+        b'0' + detail % 10,
         b' ',
     ]
 }
@@ -46,6 +44,6 @@ pub fn put_head(out: &mut [u8], at: usize, number: u64, kind: u8, code: u8, id: 
     let k = script_text::put_decimal(out, at, number);
     let k = pieces::put(out, k, &type_text);
     let k = pieces::put(out, k, &code_text);
-    let k = script_text::put_decimal(out, k, id as u64);
+    let k = script_text::put_decimal(out, k, u64::from(id));
     pieces::put_byte(out, k, b' ')
 }

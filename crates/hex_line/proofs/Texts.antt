@@ -6,6 +6,8 @@ use Prim.Native.Nat.{ℕ, suc, ◌+◌, ◌-◌, ◌≤◌, ◌<◌}
 use native.Mathlib.Numerals.{add-one}
 use native.Mathlib.Omega.{arith}
 use lib.Dec.{eqb}
+use Rattle.std.specs.Char.{to_ascii_lowercase}
+use Rattle.std.proofs.lemmas.Bool.Decides.{nat_tests}
 use lib.ListN.{length, get_or, take, drop, drop_of_length-le, get_or-map}
 use lib.Seq.{drop-cons, take-suc, take-length, length-take-le}
 use borrow.Author.Tests.{ne_eqb}
@@ -34,11 +36,11 @@ module _ {test : ℕ → Bool} {l : List ℕ} {i : ℕ} (p : Passed test l i) wh
       let f : passing test (drop i l) ≡ 0 = rw (drop-cons l i 0 h, e) in
       omega (arith, p.is, f)
 
-  pub passed-end : length l ≤ i → i ≡ passing test l
+  pub passed-end : length l ≤ i → length l ≡ passing test l
   unfolding passing
   passed-end h =
       let f : passing test (drop i l) ≡ 0 = rw (drop_of_length-le l {i = i} h) in
-      omega (arith, p.is, f)
+      omega (arith, p.is, p.within, f)
 
 -- ---- blanks at the end
 
@@ -56,35 +58,39 @@ end-last (y ∷ xs) x = ap (λ (n : ℕ). cond (is_blank y && eqb n 0) 0 (suc n)
     go true = refl
     go false = rw (ne_eqb (suc (length xs)) 0 (λ w. omega (arith, w)), and-false (is_blank y))
 
--- the bytes from `end` on are blanks
-pub record Bare (l : List ℕ) (end : ℕ) : Type 0 where
-  pub within : end ≤ length l
-  pub is : end_of l ≡ end_of (take end l)
+-- the bytes behind the rest are blanks
+pub record Bare (l rest : List ℕ) : Type 0 where
+  pub within : length rest ≤ length l
+  pub is : end_of l ≡ end_of rest
 
-pub bare-start : (l : List ℕ) → Bare l (length l)
-bare-start l = record { within = omega arith; is = ap end_of (sym (take-length l)) }
+last_of : (rest : List ℕ) → 0 < length rest
+    → end_of rest ≡ cond (is_blank (get_or rest (length rest - 1) 0)) (end_of (take (length rest - 1) rest)) (length rest)
+last_of rest h =
+    let n : ℕ = length rest - 1 in
+    let e : length rest ≡ suc n = omega arith in
+    let whole : take (suc n) rest ≡ rest = ap (λ (j : ℕ). take j rest) (sym e) ∙ take-length rest in
+    let front : suc (length (take n rest)) ≡ length rest = omega (arith, length-take-le n rest (omega arith)) in
+    ap end_of (sym whole ∙ take-suc rest n 0 (omega arith)) ∙ end-last (take n rest) (get_or rest n 0)
+    ∙ ap (λ (j : ℕ). cond (is_blank (get_or rest n 0)) (end_of (take n rest)) j) front
 
-module _ {l : List ℕ} {end : ℕ} (b : Bare l end) (h : 0 < end) where
-  last_of : end_of (take end l) ≡ cond (is_blank (get_or l (end - 1) 0)) (end_of (take (end - 1) l)) end
-  last_of =
-      let e : end ≡ suc (end - 1) = omega arith in
-      let w : end - 1 < length l = omega (arith, b.within) in
-      let n : suc (length (take (end - 1) l)) ≡ end = omega (arith, length-take-le (end - 1) l (omega arith)) in
-      ap (λ (j : ℕ). end_of (take j l)) e ∙ ap end_of (take-suc l (end - 1) 0 w) ∙ end-last (take (end - 1) l) (get_or l (end - 1) 0)
-      ∙ ap (λ (j : ℕ). cond (is_blank (get_or l (end - 1) 0)) (end_of (take (end - 1) l)) j) n
+module _ {l rest : List ℕ} (b : Bare l rest) (h : 0 < length rest) where
+  pub bare-turn : is_blank (get_or rest (length rest - 1) 0) ≡ true → Bare l (take (length rest - 1) rest)
+  bare-turn e = record { within = omega (arith, b.within, length-take-le (length rest - 1) rest (omega arith)); is = b.is ∙ last_of rest h ∙ rw e }
 
-  pub bare-turn : is_blank (get_or l (end - 1) 0) ≡ true → Bare l (end - 1)
-  bare-turn e = record { within = omega (arith, b.within); is = b.is ∙ last_of ∙ rw e }
+  pub bare-stop : is_blank (get_or rest (length rest - 1) 0) ≡ false → length rest ≡ end_of l
+  bare-stop e = sym (b.is ∙ last_of rest h ∙ rw e)
 
-  pub bare-stop : is_blank (get_or l (end - 1) 0) ≡ false → end ≡ end_of l
-  bare-stop e = sym (b.is ∙ last_of ∙ rw e)
-
-pub bare-none : {l : List ℕ} {end : ℕ} → Bare l end → end ≤ 0 → 0 ≡ end_of l
+pub bare-none : {l rest : List ℕ} → Bare l rest → length rest ≡ 0 → 0 ≡ end_of l
 unfolding end_of
-bare-none {l} {end} b h = let e : end ≡ 0 = omega arith in sym (b.is ∙ ap (λ (j : ℕ). end_of (take j l)) e)
+bare-none {rest = []} b h = sym b.is
+bare-none {rest = x ∷ rest} b h = absurd (omega arith)
 
 -- ---- lower case
 
-pub lower-at : (l : List ℕ) (i : ℕ) → lower (get_or l i 0) ≡ get_or (map lower l) i 0
+lower-is : (x : ℕ) → to_ascii_lowercase x ≡ lower x
 unfolding lower
-lower-at l i = sym (get_or-map lower l i 0)
+lower-is x = grind (arith, nat_tests)
+
+pub lower-at : (l : List ℕ) (i : ℕ) → to_ascii_lowercase (get_or l i 0) ≡ get_or (map lower l) i 0
+unfolding lower
+lower-at l i = lower-is (get_or l i 0) ∙ sym (get_or-map lower l i 0)

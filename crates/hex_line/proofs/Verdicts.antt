@@ -13,22 +13,20 @@ use Rattle.pieces.proofs.Memory.{part-patch}
 use Rattle.line_input.specs.Sizes.{longest}
 use Rattle.script_fields.specs.Fields.{nibble, is_hex, is_pairs, pairs_of, pairs_decoded}
 use Rattle.script_fields.proofs.Pairs.{pairs-length}
-use Rattle.script_fields.specs.declared.Decoded.TheVariants as decoded
-use Rattle.hex_line.specs.Line.{passing, start_of, end_of, trimmed, lower, is_skipped, bad_at, digits_say, most_digits, hex_of, bytes_of, Filled}
-use Rattle.hex_line.specs.declared.Hex.{Hex}
-use Rattle.hex_line.specs.declared.Hex.TheVariants as hex
+use Rattle.hex_line.specs.Line.{passing, start_of, end_of, trimmed, lower, is_skipped, bad_at, digits_say, most_digits, Hex, hex_of, bytes_of, Filled}
+use Rattle.std.specs.Prelude.{Option, Some, None, Ok, Err, is_some}
 use Rattle.hex_line.specs.declared.Why.TheVariants as why
 
 -- ---- digits
 
-module _ (x : ℕ) {h : ℕ} (e : h ≡ nibble x) where
-  pub no-hex : h ≡ 16 → is_hex x ≡ false
+module _ (x : ℕ) {h : Option ℕ} (e : h ≡ nibble x) (b : Bool) (is : is_some h ≡ not b) where
+  pub no-hex : b ≡ true → is_hex x ≡ false
   unfolding is_hex
-  no-hex f = rw (← e, f)
+  no-hex f = ap is_some (sym e) ∙ is ∙ ap not f
 
-  pub some-hex : (h ≡ 16 → ⊥) → is_hex x ≡ true
+  pub some-hex : b ≡ false → is_hex x ≡ true
   unfolding is_hex
-  some-hex f = rw (← e, ne_eqb h 16 f)
+  some-hex f = ap is_some (sym e) ∙ is ∙ ap not f
 
 -- a byte in front that is a digit
 digit-first : (x : ℕ) (xs : List ℕ) → length (x ∷ xs) ≤ bad_at (x ∷ xs) → (is_hex x ≡ true) × (length xs ≤ bad_at xs)
@@ -51,39 +49,39 @@ pairs-even (x ∷ y ∷ rest) h =
     rw (p.0, q.0, e) (pairs-even rest q.1)
 
 module _ (start : ℕ) (text : List ℕ) where
-  pub no_digit_lem : (bad : ℕ) → bad ≡ bad_at text → bad < length text → hex.Unread (why.NoDigit (start + bad + 1)) ≡ digits_say start text
+  pub no_digit_lem : (bad : ℕ) → bad ≡ bad_at text → bad < length text → Err (why.NoDigit (start + bad + 1)) ≡ digits_say start text
   unfolding digits_say
   no_digit_lem bad e h = rw (← e, lt-ltb bad (length text) h)
 
   module _ (h : length text ≤ bad_at text) where
-    pub odd_number_lem : pairs_decoded text ≡ decoded.Bad → hex.Unread why.Odd ≡ digits_say start text
+    pub odd_number_lem : pairs_decoded text ≡ None → Err why.Odd ≡ digits_say start text
     unfolding digits_say pairs_decoded
     odd_number_lem e = rw (le-ltb (bad_at text) (length text) h) (go (eqb (length text % 2) 1) (rw (pairs-even text h) at e))
       where
-        go : (b : Bool) → cond (not b) (decoded.Bytes (length (pairs_of text))) decoded.Bad ≡ decoded.Bad → hex.Unread why.Odd ≡ cond b (hex.Unread why.Odd) (hex.Bytes (length (pairs_of text)))
+        go : (b : Bool) → cond (not b) (Some (length (pairs_of text))) None ≡ None → Err why.Odd ≡ cond b (Err why.Odd) (Ok (Some (length (pairs_of text))))
         go true q = refl
         go false q = absurd (let z : ◌≡◌ {A = ℕ} 0 1 = cc in omega arith)
 
-    pub some_bytes : (n : ℕ) → pairs_decoded text ≡ decoded.Bytes n → hex.Bytes n ≡ digits_say start text
+    pub some_bytes : (n : ℕ) → pairs_decoded text ≡ Some n → Ok (Some n) ≡ digits_say start text
     unfolding digits_say pairs_decoded
     some_bytes n e = rw (le-ltb (bad_at text) (length text) h) (go (eqb (length text % 2) 1) (rw (pairs-even text h) at e))
       where
-        go : (b : Bool) → cond (not b) (decoded.Bytes (length (pairs_of text))) decoded.Bad ≡ decoded.Bytes n → hex.Bytes n ≡ cond b (hex.Unread why.Odd) (hex.Bytes (length (pairs_of text)))
+        go : (b : Bool) → cond (not b) (Some (length (pairs_of text))) None ≡ Some n → Ok (Some n) ≡ cond b (Err why.Odd) (Ok (Some (length (pairs_of text))))
         go true q = absurd (let z : ◌≡◌ {A = ℕ} 0 1 = cc in omega arith)
         go false q = cc
 
 -- ---- a buffer is filled only by bytes
 
 abbrev pub has_bytes : Hex → Bool
-has_bytes hex.Skipped = false
-has_bytes (hex.Bytes n) = true
-has_bytes (hex.Unread w) = false
+has_bytes (Ok None) = false
+has_bytes (Ok (Some n)) = true
+has_bytes (Err w) = false
 
 pub not-filled : (r : Hex) (bytes out : List ℕ) → has_bytes r ≡ false → Filled r bytes out
 not-filled r bytes out e n q = absurd (true≢false (sym (ap has_bytes q) ∙ e))
 
 pub some-filled : (text out : List ℕ) (n : ℕ) → length text ≤ most_digits → (n ≤ length out) × (take n out ≡ pairs_of text)
-    → Filled (hex.Bytes n) (pairs_of text) out
+    → Filled (Ok (Some n)) (pairs_of text) out
 some-filled text out n h f k q =
     let e : n ≡ k = cc in
     let l : length (pairs_of text) ≡ n = ap length (sym f.1) ∙ length-take-le n out f.0 in
@@ -91,7 +89,7 @@ some-filled text out n h f k q =
 
 -- ---- a line
 
-pub long-line : (line : List ℕ) → longest < length line → hex.Unread why.LongLine ≡ hex_of line
+pub long-line : (line : List ℕ) → longest < length line → Err why.LongLine ≡ hex_of line
 unfolding hex_of
 long-line line h = rw (lt-ltb longest (length line) h)
 
@@ -110,7 +108,7 @@ module _ (line : List ℕ) (s e : ℕ) (x : Ends line s e) where
   unfolding trimmed
   cut = rw (x.starts, x.ends)
 
-  pub empty-line : e ≤ s → hex.Skipped ≡ hex_of line
+  pub empty-line : e ≤ s → Ok None ≡ hex_of line
   unfolding hex_of is_skipped
   empty-line h =
       let z : e - s ≡ 0 = omega arith in
@@ -131,12 +129,12 @@ module _ (line : List ℕ) (s e : ℕ) (x : Ends line s e) where
         let n : e - s ≡ suc (e - s - 1) = omega arith in
         rw (n, drop-cons line s 0 (omega (arith, x.within)))
 
-    pub comment-line : get_or line s 0 ≡ 35 → hex.Skipped ≡ hex_of line
+    pub comment-line : get_or line s 0 ≡ 35 → Ok None ≡ hex_of line
     unfolding hex_of
     comment-line c = rw (le-ltb longest (length line) x.short, cut, first, eq-eqb (get_or line s 0) 35 c)
 
     module _ (text : get_or line s 0 ≡ 35 → ⊥) where
-      pub too_many : most_digits < e - s → hex.Unread why.TooLong ≡ hex_of line
+      pub too_many : most_digits < e - s → Err why.TooLong ≡ hex_of line
       unfolding hex_of
       too_many h =
           rw (le-ltb longest (length line) x.short, cut, first, ne_eqb (get_or line s 0) 35 text, text-length, lt-ltb most_digits (e - s) h)
@@ -147,8 +145,9 @@ module _ (line : List ℕ) (s e : ℕ) (x : Ends line s e) where
           rw (le-ltb longest (length line) x.short, cut, first, ne_eqb (get_or line s 0) 35 text, text-length, le-ltb most_digits (e - s) h, x.starts)
 
     -- the text that is lent
-    pub text-lent : (m m' : List ℕ) → m' ≡ patch m 0 (map lower (between line s e)) → take (e - s - 0) m' ≡ map lower (between line s e)
+    pub text-lent : (m m' : List ℕ) → m' ≡ patch m 0 (map lower (between line s e)) → take (e - s) m' ≡ map lower (between line s e)
     unfolding part
     text-lent m m' is =
-        let n : e - s - 0 ≡ length (map lower (between line s e)) = omega (arith, length-map (between line s e) lower, text-length) in
-        rw (is, n) (part-patch m 0 (map lower (between line s e)) (omega arith))
+        let n : e - s ≡ length (map lower (between line s e)) = omega (arith, length-map (between line s e) lower, text-length) in
+        let lent : take (length (map lower (between line s e))) m' ≡ map lower (between line s e) = rw is (part-patch m 0 (map lower (between line s e)) (omega arith)) in
+        ap (λ (k : ℕ). take k m') n ∙ lent

@@ -1,9 +1,8 @@
 -- What a line of hex says, as lists of bytes.
-use Rattle.std.specs.Prelude.{ℕ, suc, ◌+◌, ◌-◌, ◌%◌, ◌≤◌, ◌≡◌, Bool, true, false, cond, ◌&&◌, ◌||◌, List, [], ◌∷◌, map, eqb, ltb, leb, length, take, drop}
+use Rattle.std.specs.Prelude.{ℕ, suc, ◌+◌, ◌-◌, ◌%◌, ◌≤◌, ◌≡◌, Bool, true, false, cond, ◌&&◌, ◌||◌, List, [], ◌∷◌, map, eqb, ltb, leb, length, take, drop, Option, Some, None, Result, Ok, Err}
 use Rattle.line_input.specs.Sizes.{longest}
 use Rattle.script_fields.specs.Fields.{is_hex, pairs_of}
-use Rattle.hex_line.specs.declared.Hex.{Hex}
-use Rattle.hex_line.specs.declared.Hex.TheVariants as hex
+use Rattle.hex_line.specs.declared.Why.{Why}
 use Rattle.hex_line.specs.declared.Why.TheVariants as why
 
 -- ---- the text of a line
@@ -36,6 +35,10 @@ lower x = cond (leb 65 x && leb x 90) (x + 32) x
 
 -- ---- what it says
 
+-- So many bytes, none in an empty line or a comment, or why it is unreadable.
+abbrev pub Hex : Type 0
+Hex = Result (Option ℕ) Why
+
 -- A text that is empty or starts with `#` says nothing.
 unfoldable pub is_skipped : List ℕ → Bool
 is_skipped [] = true
@@ -48,8 +51,8 @@ bad_at text = passing is_hex text
 -- What a text in lower case says, with `start` bytes before it in its line.
 unfoldable pub digits_say : ℕ → List ℕ → Hex
 digits_say start text =
-    cond (ltb (bad_at text) (length text)) (hex.Unread (why.NoDigit (start + bad_at text + 1)))
-    (cond (eqb (length text % 2) 1) (hex.Unread why.Odd) (hex.Bytes (length (pairs_of text))))
+    cond (ltb (bad_at text) (length text)) (Err (why.NoDigit (start + bad_at text + 1)))
+    (cond (eqb (length text % 2) 1) (Err why.Odd) (Ok (Some (length (pairs_of text)))))
 
 -- Two digits for each of 65,535 bytes.
 abbrev pub most_digits : ℕ
@@ -58,9 +61,9 @@ most_digits = 131070
 -- A line that is longer than the longest may be cut, so it is unreadable whatever it holds.
 unfoldable pub hex_of : List ℕ → Hex
 hex_of line =
-    cond (ltb longest (length line)) (hex.Unread why.LongLine)
-    (cond (is_skipped (trimmed line)) hex.Skipped
-    (cond (ltb most_digits (length (trimmed line))) (hex.Unread why.TooLong) (digits_say (start_of line) (map lower (trimmed line)))))
+    cond (ltb longest (length line)) (Err why.LongLine)
+    (cond (is_skipped (trimmed line)) (Ok None)
+    (cond (ltb most_digits (length (trimmed line))) (Err why.TooLong) (digits_say (start_of line) (map lower (trimmed line)))))
 
 -- The bytes of a line, where it has any.
 unfoldable pub bytes_of : List ℕ → List ℕ
@@ -70,9 +73,9 @@ bytes_of line = pairs_of (map lower (trimmed line))
 
 -- The bytes, of 65,535 at most, stand at the start of the buffer.
 abbrev pub Filled : Hex → List ℕ → List ℕ → Type 0
-Filled r bytes out = (n : ℕ) → r ≡ hex.Bytes n → (n ≤ 65535) × (n ≤ length out) × (take n out ≡ bytes)
+Filled r bytes out = (n : ℕ) → r ≡ Ok (Some n) → (n ≤ 65535) × (n ≤ length out) × (take n out ≡ bytes)
 
 abbrev pub is_unread : Hex → Bool
-is_unread hex.Skipped = false
-is_unread (hex.Bytes n) = false
-is_unread (hex.Unread w) = true
+is_unread (Ok None) = false
+is_unread (Ok (Some n)) = false
+is_unread (Err w) = true

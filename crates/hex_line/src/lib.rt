@@ -7,13 +7,11 @@ ghost use Rattle.line_input.specs.Sizes.{longest};
 ghost use Rattle.script_fields.specs.Fields.{pairs_of};
 ghost use Rattle.hex_line.specs.Line.{is_blank, start_of, end_of, lower, bad_at, digits_say, most_digits, hex_of, bytes_of, Filled, is_unread};
 
-use script_fields::Decoded;
-
 // Two digits for each of 65,535 bytes.
 const MOST_DIGITS: usize = 131070;
 
 // Why a line is unreadable.
-#[derive(Clone, Copy)]
+#[derive(Clone, Copy, Debug, PartialEq, Eq)]
 pub enum Why {
     // The line as it stands, which may be cut.
     LongLine,
@@ -24,54 +22,38 @@ pub enum Why {
     Odd,
 }
 
-#[derive(Clone, Copy)]
-pub enum Hex {
-    // An empty line, or a comment.
-    Skipped,
-    // So many bytes.
-    Bytes(usize),
-    Unread(Why),
-}
+// So many bytes; none in an empty line or a comment.
+pub type Hex = Result<Option<usize>, Why>;
 
+#[tactic(auto, unfolding(crate::specs::Line::is_blank))]
 fn is_blank(x: u8) -> bool
     ensures { result ≡ is_blank x }
 {
-    (x == b' ') | ((x == b'\t') | (x == b'\r'))
+    matches!(x, b' ' | b'\t' | b'\r')
 }
 
 fn start_of(line: &[u8]) -> usize
     ensures { result ≡ start_of line.now }
 {
-    let mut i = 0;
-    while i < line.len() {
-        if !is_blank(line[i]) {
+    for (i, x) in line.iter().enumerate() {
+        if !is_blank(*x) {
             return i;
         }
-        i += 1;
     }
-    i
+    line.len()
 }
 
 fn end_of(line: &[u8]) -> usize
     ensures { (result ≡ end_of line.now) × (result ≤ length line.now) }
 {
-    let mut end = line.len();
-    while end > 0 {
-        if !is_blank(line[end - 1]) {
-            return end;
+    let mut rest = line;
+    while let [front @ .., last] = rest {
+        if !is_blank(*last) {
+            return rest.len();
         }
-        end -= 1;
+        rest = front;
     }
     0
-}
-
-fn lower_of(x: u8) -> u8
-    ensures { result ≡ lower x }
-{
-    if (65 <= x) & (x <= 90) {
-        return x + 32;
-    }
-    x
 }
 
 // Copies a text in lower case to the start of a buffer.
@@ -79,24 +61,20 @@ fn put_lower(out: &mut [u8], text: &[u8])
     requires { length text.now ≤ length out.old }
     ensures { out.new ≡ patch out.old 0 (map lower text.now) }
 {
-    let mut i: usize = 0;
-    while i < text.len() {
-        out[i] = lower_of(text[i]);
-        i += 1;
+    for (i, x) in text.iter().enumerate() {
+        out[i] = x.to_ascii_lowercase();
     }
 }
 
 fn bad_at(text: &[u8]) -> usize
     ensures { result ≡ bad_at text.now }
 {
-    let mut i = 0;
-    while i < text.len() {
-        if script_fields::nibble_of(text[i]) == 16 {
+    for (i, x) in text.iter().enumerate() {
+        if script_fields::nibble_of(*x).is_none() {
             return i;
         }
-        i += 1;
     }
-    i
+    text.len()
 }
 
 // What a text in lower case says, with so many bytes before it in its line.
@@ -108,12 +86,12 @@ fn read_digits(start: usize, text: &[u8], bytes: &mut [u8]) -> Hex
 {
     let bad = bad_at(text);
     if bad < text.len() {
-        return Hex::Unread(Why::NoDigit(start + bad + 1));
+        return Err(Why::NoDigit(start + bad + 1));
     }
-    let Decoded::Bytes(n) = script_fields::decode_pairs(text, bytes) else {
-        return Hex::Unread(Why::Odd);
+    let Some(n) = script_fields::decode_pairs(text, bytes) else {
+        return Err(Why::Odd);
     };
-    Hex::Bytes(n)
+    Ok(Some(n))
 }
 
 // What a line says; its text is left in one buffer, and its bytes in another.
@@ -123,30 +101,23 @@ pub fn read_line(line: &[u8], text: &mut [u8], bytes: &mut [u8]) -> Hex
     ensures filled { Filled result (bytes_of line.now) bytes.new }
 {
     if line_input::LONGEST < line.len() {
-        return Hex::Unread(Why::LongLine);
+        return Err(Why::LongLine);
     }
     let start = start_of(line);
     let end = end_of(line);
-    if end <= start {
-        return Hex::Skipped;
-    }
-    if line[start] == b'#' {
-        return Hex::Skipped;
+    if end <= start || line[start] == b'#' {
+        return Ok(None);
     }
     let n = end - start;
     if MOST_DIGITS < n {
-        return Hex::Unread(Why::TooLong);
+        return Err(Why::TooLong);
     }
     put_lower(text, &line[start..end]);
-    read_digits(start, &text[0..n], bytes)
+    read_digits(start, &text[..n], bytes)
 }
 
 pub fn is_unread(hex: Hex) -> bool
     ensures { result ≡ is_unread hex }
 {
-    match hex {
-        Hex::Skipped => false,
-        Hex::Bytes(_) => false,
-        Hex::Unread(_) => true,
-    }
+    hex.is_err()
 }

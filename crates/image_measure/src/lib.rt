@@ -28,51 +28,39 @@ pub struct Extent {
 fn assembled_by(e: Entry) -> usize
     ensures { (result ≡ e.state.assembled.len) × (result < 2 ^ 34) }
 {
-    let state = e.state;
-    wide::usize_of_u32(state.assembled.len)
+    e.state.assembled.len as usize
 }
 
 fn cached_by(e: Entry) -> usize
     ensures { (result ≡ e.state.cached.head + e.state.cached.payload) × (result < 2 ^ 34) }
 {
-    let state = e.state;
-    wide::usize_of_u8(state.cached.head) + wide::usize_of_u32(state.cached.payload)
+    usize::from(e.state.cached.head) + e.state.cached.payload as usize
 }
 
-fn one_if(b: bool) -> usize
-    ensures { (result ≡ cond b 1 0) × (result ≤ 1) }
-{
-    if b { 1 } else { 0 }
-}
-
+#[tactic(auto, using(crate::proofs::Turns::map_next, crate::proofs::Turns::map_done))]
 pub fn lengths_of(entries: [Entry; 16]) -> Lengths
     ensures { (result.upload ≡ assembled_in entries) × (result.response ≡ cached_in entries) }
 {
     let mut upload = [0usize; 16];
     let mut response = [0usize; 16];
-    let mut i = 0;
-    while i < 16 {
-        let e = entries[i];
-        upload[i] = assembled_by(e);
-        response[i] = cached_by(e);
-        i += 1;
+    for (i, e) in entries.iter().enumerate() {
+        upload[i] = assembled_by(*e);
+        response[i] = cached_by(*e);
     }
     Lengths { upload, response }
 }
 
+#[tactic(auto, using(crate::proofs::Turns::measured_start, crate::proofs::Turns::measured_next, crate::proofs::Turns::measured_done))]
 pub fn measure(entries: [Entry; 16]) -> Extent
     ensures { (result.rows ≡ count entries) × (result.uploads ≡ upload_start entries) × (result.responses ≡ response_start entries) × (result.total ≡ total entries) }
 {
     let mut rows: usize = 0;
     let mut upload: usize = 0;
     let mut response: usize = 0;
-    let mut i = 0;
-    while i < 16 {
-        let e = entries[i];
-        rows += one_if(e.used);
-        upload += assembled_by(e);
-        response += cached_by(e);
-        i += 1;
+    for e in &entries {
+        rows += usize::from(e.used);
+        upload += assembled_by(*e);
+        response += cached_by(*e);
     }
     let uploads = 32 + 96 * rows;
     let responses = uploads + upload;
@@ -89,7 +77,7 @@ fn put_word(out: &mut [u8], at: usize, n: usize) -> usize
     requires { at + 4 ≤ length out.old }
     ensures { (Put out.old at (in_bytes 4 n) out.new result) × (result ≡ at + 4) }
 {
-    big_endian::put_number(out, at, 4, wide::u64_of_usize(n))
+    big_endian::put_number(out, at, 4, n as u64)
 }
 
 // Writes the header of an image at the start of an output.

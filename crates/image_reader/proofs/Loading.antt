@@ -8,7 +8,10 @@ use lib.Dec.{eqb}
 use lib.ListN.{length, take, drop, replicate}
 use lib.Seq.{drop-drop}
 use borrow.Author.Tests.{eqb-true}
+use Rattle.std.specs.Prelude.{is_some, IfSome}
+use Rattle.std.specs.Bool.{then_some}
 use Rattle.pieces.specs.Memory.{part}
+use Rattle.pieces.proofs.Memory.{patch-whole}
 use Rattle.pieces.proofs.Tests.{ands}
 use Rattle.config.specs.declared.Config.{Config}
 use Rattle.gathering.specs.Gather.{sum, scattered}
@@ -26,7 +29,7 @@ use Rattle.call.specs.Contract.{world}
 use Rattle.image_format.specs.Rows.{rows_from, count, read_rows}
 use Rattle.image_format.specs.Image.{assembled_in, cached_in, upload_start, response_start, total, header, read_entries, read_image, image_ok}
 use Rattle.image_format.proofs.Rows.{read-sixteen}
-use Rattle.image_format.proofs.Judged.{passes, judged}
+use Rattle.image_format.proofs.Judged.{passes, judged, length-header, fails-header, fails-count, fails-rows}
 use Rattle.image_measure.specs.Room.{Rooms}
 use Rattle.image_measure.proofs.Rooms.{rooms}
 use Rattle.image_reader.specs.Load.{fresh_ok, loading, loaded}
@@ -49,20 +52,27 @@ module _ (l : List ℕ) (clock : ℕ) (entries : List Entry) (time : clock ≡ n
       → (a && b) ≡ image_ok c l
   judged-by c t a b e f g = rw (f, g, e, time, read) (sym (judged c l))
 
+-- a buffer of the header's length is the header
+pub ruleset whole = (patch-whole, length-header)
+
+-- what is no image
+pub ruleset no_image = (fails-header, fails-count, fails-rows)
+
+-- a table is given where the test passes, and only there
+pub some-if : (b : Bool) (t : Table) → is_some (then_some b t) ≡ b
+some-if true t = refl
+some-if false t = refl
+
+pub some-is : (b : Bool) (t : Table) {u : Table} → t ≡ u → IfSome (then_some b t) (λ s. s ≡ u)
+some-is true t e = e
+some-is false t e = tt
+
 pub read_all : (l : List ℕ) (n : ℕ) (entries : List Entry) → entries ≡ read_rows (replicate 16 free) n (drop 32 l) → n ≡ number_at l 4 4 → entries ≡ read_entries l
 unfolding read_entries
 read_all l n entries e f = rw (e, f)
 
 module _ (c : Config) (x : World) (l : List ℕ) where
-  pub not-fresh : fresh_ok c x ≡ false → loaded c x l ≡ loading 1 x
-  unfolding loaded
-  not-fresh e = rw e
-
   module _ (fresh : fresh_ok c x ≡ true) where
-    pub not_right : image_ok c l ≡ false → loaded c x l ≡ loading 12 x
-    unfolding loaded
-    not_right e = rw (fresh, e)
-
     module _ (right : image_ok c l ≡ true) where
       -- the memories and the image hold what the entries say
       pub room : Rooms c (read_entries l) (length x.upload) (length x.response) (length l)

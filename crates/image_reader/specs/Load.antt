@@ -1,5 +1,5 @@
 -- LOADING: an image "into a fresh table" (document 02).
-use Rattle.std.specs.Prelude.{ℕ, Bool, cond, not, ◌&&◌, List, length, eqb}
+use Rattle.std.specs.Prelude.{ℕ, Bool, cond, not, ◌&&◌, List, length, eqb, Result, Ok, Err}
 use Rattle.config.specs.declared.Config.{Config}
 use Rattle.gathering.specs.Gather.{scattered}
 use Rattle.keys.specs.Lists.{all}
@@ -9,6 +9,8 @@ use Rattle.block_table.specs.Table.{table_ok, table_of}
 use Rattle.judge.specs.Limits.{config_ok, memories_ok}
 use Rattle.call.specs.Call.{World}
 use Rattle.image_format.specs.Image.{Image, assembled_in, cached_in, read_image, image_ok}
+use Rattle.image_reader.specs.declared.LoadRefusal.{LoadRefusal}
+use Rattle.image_reader.specs.declared.LoadRefusal.TheVariants.{NotFresh, NotRight}
 
 -- "A fresh table is empty with clock 0" (document 01), and within its limits.
 unfoldable pub is_fresh : Config → Table → Bool
@@ -38,3 +40,19 @@ loading n w = record { refusal = n; world = w }
 -- "1 .., then 12 .., table and memories left untouched."
 unfoldable pub loaded : Config → World → List ℕ → Loading
 loaded c x l = cond (not (fresh_ok c x)) (loading 1 x) (cond (not (image_ok c l)) (loading 12 x) (loading 0 (world_of c x (read_image l))))
+
+-- ---- What a call gives
+
+abbrev pub number : LoadRefusal → ℕ
+number NotFresh = 1
+number NotRight = 12
+
+-- 0 for a table that is loaded.
+abbrev pub refusal_of : Result Table LoadRefusal → ℕ
+refusal_of (Ok new) = 0
+refusal_of (Err refusal) = number refusal
+
+-- The table that is left: the new one, or the one before.
+abbrev pub table_left : Table → Result Table LoadRefusal → Table
+table_left table (Ok new) = new
+table_left table (Err refusal) = table

@@ -1,7 +1,7 @@
 // Loading an image into a fresh table: judged first, as a whole, before a byte is written.
 #![tactic(auto)]
 
-ghost use Rattle.std.specs.Prelude.{◌≡◌, true, false, ◌&&◌, ◌+◌, ◌*◌, ◌^◌, ◌<◌, ◌≤◌, length, take, drop, eqb};
+ghost use Rattle.std.specs.Prelude.{◌≡◌, ◌&&◌, ◌+◌, ◌*◌, ◌^◌, ◌<◌, ◌≤◌, length, take, drop, eqb, is_some, IfSome};
 ghost use Rattle.pieces.specs.Memory.{part};
 ghost use Rattle.big_endian.specs.Numbers.{number_at};
 ghost use Rattle.gathering.specs.Gather.{scattered};
@@ -12,34 +12,34 @@ ghost use Rattle.call.specs.Contract.{world};
 ghost use Rattle.image_format.specs.Rows.{rows_from, count};
 ghost use Rattle.image_format.specs.Image.{assembled_in, cached_in, upload_start, response_start, total, header, read_image, image_ok};
 ghost use Rattle.image_measure.specs.Room.{Rooms};
-ghost use Rattle.image_reader.specs.Load.{is_fresh, loading, loaded};
+ghost use Rattle.image_reader.specs.Load.{is_fresh, loading, loaded, number, refusal_of, table_left};
 
 use block_table::Table;
 use config::Config;
 use entries::Entry;
 
-// A refusal, or 0, and the table that is left.
-#[derive(Clone, Copy)]
-pub struct Loaded {
-    pub refusal: u8,
-    pub table: Table,
+// Why an image is not loaded.
+#[derive(Clone, Copy, PartialEq, Eq)]
+pub enum LoadRefusal {
+    // The table isn't fresh, or the configuration or a memory is off its limits.
+    NotFresh,
+    // Counts, offsets or rows disagree, or the table that they describe is off the limits.
+    NotRight,
 }
 
-// Whether an image is one to load, and the table that it describes.
-#[derive(Clone, Copy)]
-pub struct Judged {
-    pub ok: bool,
-    pub table: Table,
-}
-
-fn not_ok() -> Judged
-    ensures { result.ok ≡ false }
-{
-    let table = block_table::fresh();
-    Judged { ok: false, table }
+impl LoadRefusal {
+    pub fn number(self) -> u8
+        ensures { result ≡ number self }
+    {
+        match self {
+            LoadRefusal::NotFresh => 1,
+            LoadRefusal::NotRight => 12,
+        }
+    }
 }
 
 // Whether the header of these entries stands at the image's start, byte by byte.
+#[tactic(auto, using(crate::proofs::Loading::whole))]
 fn same_header(image: &[u8], clock: u64, entries: [Entry; 16]) -> bool
     requires { 32 ≤ length image.now }
     ensures { result ≡ same (header clock entries) (take 32 image.now) }
@@ -57,20 +57,21 @@ fn same_image(image: &[u8], clock: u64, entries: [Entry; 16]) -> bool
 {
     let extent = image_measure::measure(entries);
     same_header(image, clock, entries)
-        & image_rows::same_rows(image, entries)
-        & (image.len() == extent.total)
+        && image_rows::same_rows(image, entries)
+        && image.len() == extent.total
 }
 
 // Reads n rows, which the image has, and judges it by them.
-fn judge_rows(config: Config, image: &[u8], n: usize) -> Judged
+fn judge_rows(config: Config, image: &[u8], n: usize) -> Option<Table>
     requires { (n ≡ number_at image.now 4 4) × (n ≤ 16) × (32 + 96 * n ≤ length image.now) }
-    ensures { (result.ok ≡ image_ok config image.now) × (result.table ≡ table_of (read_image image.now).clock (read_image image.now).entries) }
+    ensures ok { is_some result ≡ image_ok config image.now }
+    ensures table { IfSome result (λ t. t ≡ table_of (read_image image.now).clock (read_image image.now).entries) }
 {
     let entries = image_rows::read_rows(image, n);
     let clock = big_endian::number_at(image, 24, 8);
     let table = table_limits::table_of(clock, entries);
-    let ok = same_image(image, clock, entries) & table_limits::table_ok(config, table);
-    Judged { ok, table }
+    let ok = same_image(image, clock, entries) && table_limits::table_ok(config, table);
+    ok.then_some(table)
 }
 
 // How many rows the header says there are.
@@ -81,32 +82,34 @@ fn rows_in(image: &[u8]) -> usize
     big_endian::number_at(image, 4, 4) as usize
 }
 
-// Counts are judged before they are used.
-fn judge(config: Config, image: &[u8]) -> Judged
-    ensures { (result.ok ≡ image_ok config image.now)
-        × (result.ok ≡ true → result.table ≡ table_of (read_image image.now).clock (read_image image.now).entries) }
+// The table that an image describes, if it is one to load. Counts are judged before they are used.
+#[tactic(auto, using(crate::proofs::Loading::no_image))]
+fn judge(config: Config, image: &[u8]) -> Option<Table>
+    ensures ok { is_some result ≡ image_ok config image.now }
+    ensures table { IfSome result (λ t. t ≡ table_of (read_image image.now).clock (read_image image.now).entries) }
 {
     if image.len() < 32 {
-        return not_ok();
+        return None;
     }
     let n = rows_in(image);
     if 16 < n {
-        return not_ok();
+        return None;
     }
     if image.len() < 32 + 96 * n {
-        return not_ok();
+        return None;
     }
     judge_rows(config, image, n)
 }
 
 // ---- Loading
 
+#[tactic(auto, unfolding(crate::specs::Load::is_fresh))]
 fn fresh_ok(config: Config, table: Table, u: usize, v: usize) -> bool
     ensures { result ≡ (config_ok config && memories_ok config u v && is_fresh config table) }
 {
     judge::numbers_ok(config, u, v)
-        & table_limits::table_ok(config, table)
-        & table_limits::is_empty(table)
+        && table_limits::table_ok(config, table)
+        && table_limits::is_empty(table)
 }
 
 // Copies the bytes of an image that these entries describe to the start of their pieces.
@@ -123,41 +126,34 @@ fn put_bytes(
 {
     let extent = image_measure::measure(entries);
     let lengths = image_measure::lengths_of(entries);
-    let uploads = lengths.upload;
-    let responses = lengths.response;
-    gathering::scatter(upload, config.upload, uploads, image, extent.uploads);
+    gathering::scatter(upload, config.upload, lengths.upload, image, extent.uploads);
     gathering::scatter(
         response,
         config.response,
-        responses,
+        lengths.response,
         image,
         extent.responses,
     );
 }
 
-// Loads an image into a fresh table. The memories are written only if the whole image is right.
+// Loads an image into a fresh table: the new table, with its bytes in the memories. They are written only if the whole image is right.
+#[tactic(auto, unfolding(crate::specs::Load::loaded, crate::specs::Load::fresh_ok))]
 pub fn load(
     table: Table,
     config: Config,
     upload: &mut [u8],
     response: &mut [u8],
     image: &[u8],
-) -> Loaded
+) -> Result<Table, LoadRefusal>
     ensures { loaded config (world table upload.old response.old) image.now
-        ≡ loading result.refusal (world result.table upload.new response.new) }
+        ≡ loading (refusal_of result) (world (table_left table result) upload.new response.new) }
 {
     if !fresh_ok(config, table, upload.len(), response.len()) {
-        return Loaded { refusal: 1, table };
+        return Err(LoadRefusal::NotFresh);
     }
-    let judged = judge(config, image);
-    if !judged.ok {
-        return Loaded { refusal: 12, table };
-    }
-    let new = judged.table;
-    let entries = new.entries;
-    put_bytes(config, entries, upload, response, image);
-    Loaded {
-        refusal: 0,
-        table: new,
-    }
+    let Some(new) = judge(config, image) else {
+        return Err(LoadRefusal::NotRight);
+    };
+    put_bytes(config, new.entries, upload, response, image);
+    Ok(new)
 }

@@ -7,11 +7,12 @@ use native.Mathlib.Nat.{add-zero, zero-add}
 use native.Mathlib.Numerals.{add-one}
 use native.Mathlib.Omega.{arith}
 use lib.ListN.{length, get_or, set, take, drop, length-append, drop_of_length-le}
-use lib.Seq.{drop-drop, get_or-drop}
+use lib.Seq.{drop-drop, get_or-take}
+use Rattle.std.specs.Int.{from_bool}
 use Rattle.pieces.specs.Memory.{part, Put}
 use Rattle.pieces.proofs.Puts.{put_then, put-none}
 use Rattle.big_endian.proofs.Numbers.{length-bytes}
-use Rattle.pieces.proofs.Memory.{take_part, drop-part}
+use Rattle.pieces.proofs.Memory.{take_part, drop-part, patch-whole}
 use Rattle.keys.specs.Keys.{same, key_of, stored}
 use Rattle.keys.proofs.Turns.{drop-step}
 use Rattle.entries.specs.declared.Entry.{Entry}
@@ -21,22 +22,30 @@ use Rattle.image_format.proofs.Judged.{same_parts}
 
 -- ---- a row, in the three parts that are put
 
-pub row_put : {m : List ℕ} {at : ℕ} {m₁ : List ℕ} {k : ℕ} {m₂ : List ℕ} {j : ℕ} {m₃ : List ℕ} {r : ℕ} (i : ℕ) (e : Entry) (number held given more : ℕ)
-    → number ≡ i → held ≡ flag e.state.cached.held → given ≡ flag e.state.recorded.given → more ≡ flag e.state.recorded.more
-    → Put m at (number ∷ e.key.len ∷ e.state.assembled.exponent ∷ held ∷ e.state.cached.head ∷ given ∷ more ∷ e.state.recorded.exponent ∷ []) m₁ k
+flag-is : (b : Bool) → from_bool b ≡ flag b
+flag-is true = refl
+flag-is false = refl
+
+pub row_put : {m : List ℕ} {at : ℕ} {m₁ : List ℕ} {k : ℕ} {m₂ : List ℕ} {j : ℕ} {m₃ : List ℕ} {r : ℕ} (i : ℕ) (e : Entry) (held given more : ℕ)
+    → held ≡ from_bool e.state.cached.held → given ≡ from_bool e.state.recorded.given → more ≡ from_bool e.state.recorded.more
+    → Put m at (i ∷ e.key.len ∷ e.state.assembled.exponent ∷ held ∷ e.state.cached.head ∷ given ∷ more ∷ e.state.recorded.exponent ∷ []) m₁ k
     → Put m₁ k (row_numbers e) m₂ j → Put m₂ j (stored (key_of e.key)).bytes m₃ r → length (stored (key_of e.key)).bytes ≡ 64
     → Put m at (row_bytes i e) m₃ r × (length (row_bytes i e) ≡ 96)
 unfolding row_bytes
-row_put i e number held given more a b c d first numbers key long =
-    (put_then (rw (a, b, c, d) at first) (put_then numbers key), simp (length-append, length-bytes) (omega (arith, long)))
+row_put i e held given more a b c first numbers key long =
+    let eight = rw (a ∙ flag-is e.state.cached.held, b ∙ flag-is e.state.recorded.given, c ∙ flag-is e.state.recorded.more) at first in
+    (put_then eight (put_then numbers key), simp (length-append, length-bytes) (omega (arith, long)))
 
 -- of an entry that is in use, and of one that is not
 module _ (used : Bool) (m : List ℕ) (at : ℕ) (row : List ℕ) where
-  pub put-row : {m' : List ℕ} {r : ℕ} → used ≡ true → Put m at row m' r × (length row ≡ 96) → Put m at (cond used row []) m' r × (r ≡ at + cond used 96 0)
-  put-row e p = rw e (p.0, omega (arith, p.0.to, p.1))
+  pub row_written : {m' : List ℕ} {r : ℕ} → used ≡ true → Put m at row m' r × (length row ≡ 96) → Put m at (cond used row []) m' r × (r ≡ at + cond used 96 0)
+  row_written e p = rw e (p.0, omega (arith, p.0.to, p.1))
 
-  pub put-no-row : used ≡ false → at + cond used 96 0 ≤ length m → Put m at (cond used row []) m at × (at ≡ at + cond used 96 0)
-  put-no-row e h = rw e (put-none m at (omega (arith, rw e at h)), omega arith)
+  pub none_written : used ≡ false → at + cond used 96 0 ≤ length m → Put m at (cond used row []) m at × (at ≡ at + cond used 96 0)
+  none_written e h = rw e (put-none m at (omega (arith, rw e at h)), omega arith)
+
+-- a buffer of a row's length is the row
+pub ruleset whole = (patch-whole)
 
 -- ---- the rows
 
@@ -82,8 +91,8 @@ module _ (l : List Entry) (i : ℕ) (h : i < length l) where
         rw (rows, more, same_parts row rest (part image at (96 + n)) 96 long, take_part image at (96 + n) 96 (omega arith), next) in
         and_assoc met (same row (part image at 96)) (same rest (part image (at + 96) n)) ∙ ap (λ (x : Bool). met && x) (sym both) ∙ was
 
-  pub count-step : 96 * count (drop i l) ≡ cond (get_or l i nil).used 96 0 + 96 * count (drop (i + 1) l)
-  count-step = rw (drop-step l i nil h) (either (get_or l i nil).used (count (drop (i + 1) l)))
+  pub count_step : 96 * count (drop i l) ≡ cond (get_or l i nil).used 96 0 + 96 * count (drop (i + 1) l)
+  count_step = rw (drop-step l i nil h) (either (get_or l i nil).used (count (drop (i + 1) l)))
     where
       either : (b : Bool) (n : ℕ) → 96 * cond b (suc n) n ≡ cond b 96 0 + 96 * n
       either true n = omega arith
@@ -95,14 +104,21 @@ unfolding same
 same_end l i b met r h was = sym (and-true met) ∙ rw (drop_of_length-le l {i = i} h) at was
 
 -- one more row is read
-pub read-turn : (entries : List Entry) (n j at : ℕ) (image : List ℕ) (number : ℕ) (e : Entry) → j < n → number ≡ get_or image at 0 → e ≡ read_entry (part image at 96)
-    → read_rows (set entries number e) (n - (j + 1)) (drop (at + 96) image) ≡ read_rows entries (n - j) (drop at image)
-unfolding part
-read-turn entries n j at image number e h a b =
-    let left : n - j ≡ suc (n - (j + 1)) = omega arith in
+abbrev pub row : List ℕ → ℕ → List ℕ
+row image j = let at = 32 + 96 * j in take (at + 96 - at) (drop at image)
+
+pub read_turn : (entries : List Entry) (n j : ℕ) (image : List ℕ) (number : ℕ) (e : Entry) → j < n → number ≡ get_or (row image j) 0 0 → e ≡ read_entry (row image j)
+    → read_rows (set entries number e) (n - (j + 1)) (drop (32 + 96 * (j + 1)) image) ≡ read_rows entries (n - j) (drop (32 + 96 * j) image)
+read_turn entries n j image number e h a b =
+    let at : ℕ = 32 + 96 * j in
     let k : ℕ = n - (j + 1) in
-    let first : get_or image at 0 ≡ get_or (drop at image) 0 0 = sym (get_or-drop at image 0 0 ∙ ap (λ (i : ℕ). get_or image i 0) (add-zero at)) in
-    let row : Entry = read_entry (take 96 (drop at image)) in
-    rw left
-    (ap (λ (i : ℕ). read_rows (set entries i e) k (drop (at + 96) image)) (a ∙ first) ∙ ap (λ (x : Entry). read_rows (set entries (get_or (drop at image) 0 0) x) k (drop (at + 96) image)) b
-    ∙ ap (read_rows (set entries (get_or (drop at image) 0 0) row) k) (sym (drop-drop 96 at image)))
+    let left : n - j ≡ suc k = omega arith in
+    let on : 32 + 96 * (j + 1) ≡ at + 96 = omega arith in
+    let long : at + 96 - at ≡ 96 = omega arith in
+    let here : List ℕ = take 96 (drop at image) in
+    let is : row image j ≡ here = ap (λ (n : ℕ). take n (drop at image)) long in
+    let first : number ≡ get_or (drop at image) 0 0 = a ∙ ap (λ (l : List ℕ). get_or l 0 0) is ∙ get_or-take 96 (drop at image) 0 0 (omega arith) in
+    rw (left, on)
+    (ap (λ (i : ℕ). read_rows (set entries i e) k (drop (at + 96) image)) first
+    ∙ ap (λ (x : Entry). read_rows (set entries (get_or (drop at image) 0 0) x) k (drop (at + 96) image)) (b ∙ ap read_entry is)
+    ∙ ap (read_rows (set entries (get_or (drop at image) 0 0) (read_entry here)) k) (sym (drop-drop 96 at image)))

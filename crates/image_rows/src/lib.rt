@@ -10,19 +10,6 @@ ghost use Rattle.image_format.specs.Rows.{flag, row_numbers, row_bytes, read_ent
 use block_state::{Assembled, BlockState, Cached, Recorded};
 use entries::Entry;
 
-fn flag(b: bool) -> u8
-    ensures { result ≡ flag b }
-{
-    if b { 1 } else { 0 }
-}
-
-fn narrow(x: usize) -> u8
-    requires { x < 16 }
-    ensures { result ≡ x }
-{
-    x as u8
-}
-
 // ---- Written
 
 // What stands between the row's first eight bytes and its key.
@@ -31,12 +18,9 @@ fn put_numbers(out: &mut [u8], at: usize, e: Entry) -> usize
     ensures { (Put out.old at (row_numbers e) out.new result) × (result ≡ at + 24) }
 {
     let state = e.state;
-    let num = wide::u64_of_u32(state.recorded.num);
-    let len = wide::u64_of_u32(state.assembled.len);
-    let payload = wide::u64_of_u32(state.cached.payload);
-    let to = big_endian::put_number(out, at, 4, num);
-    let to = big_endian::put_number(out, to, 4, len);
-    let to = big_endian::put_number(out, to, 4, payload);
+    let to = big_endian::put_number(out, at, 4, u64::from(state.recorded.num));
+    let to = big_endian::put_number(out, to, 4, u64::from(state.assembled.len));
+    let to = big_endian::put_number(out, to, 4, u64::from(state.cached.payload));
     let to = big_endian::put_number(out, to, 4, 0);
     big_endian::put_number(out, to, 8, e.touched)
 }
@@ -46,24 +30,24 @@ fn put_row(out: &mut [u8], at: usize, i: usize, e: Entry) -> usize
     requires at_in_bounds { at + 96 ≤ length out.old }
     ensures { (Put out.old at (row_bytes i e) out.new result) × (length (row_bytes i e) ≡ 96) }
 {
-    let key = e.key;
     let state = e.state;
     let first = [
-        narrow(i),
-        key.len,
+        i as u8,
+        e.key.len,
         state.assembled.exponent,
-        flag(state.cached.held),
+        u8::from(state.cached.held),
         state.cached.head,
-        flag(state.recorded.given),
-        flag(state.recorded.more),
+        u8::from(state.recorded.given),
+        u8::from(state.recorded.more),
         state.recorded.exponent,
     ];
     let to = pieces::put(out, at, &first);
     let to = put_numbers(out, to, e);
-    keys::put_key(out, to, key)
+    keys::put_key(out, to, e.key)
 }
 
 // The row of entry i, if it is in use.
+#[tactic(auto, using(crate::proofs::Turns::row_written, crate::proofs::Turns::none_written))]
 fn put_used(out: &mut [u8], at: usize, i: usize, e: Entry) -> usize
     requires i_bound { i < 16 }
     requires used_in_bounds { at + cond e.used 96 0 ≤ length out.old }
@@ -75,91 +59,85 @@ fn put_used(out: &mut [u8], at: usize, i: usize, e: Entry) -> usize
     at
 }
 
+#[tactic(auto, using(crate::proofs::Turns::count_step))]
 pub fn put_rows(out: &mut [u8], start: usize, entries: [Entry; 16]) -> usize
     requires { start + 96 * count entries ≤ length out.old }
     ensures { (Put out.old start (rows_from 0 entries) out.new result) × (result ≡ start + 96 * count entries) }
 {
     let mut to = start;
-    let mut i = 0;
-    while i < 16 {
-        let e = entries[i];
-        to = put_used(out, to, i, e);
-        i += 1;
+    for (i, e) in entries.iter().enumerate() {
+        to = put_used(out, to, i, *e);
     }
     to
 }
 
 // ---- Compared
 
-// Whether the row of entry i stands at an index, byte by byte.
-fn same_row(image: &[u8], at: usize, i: usize, e: Entry) -> bool
-    requires i_bound { i < 16 }
-    requires at_in_bounds { at + 96 ≤ length image.now }
-    ensures { (result ≡ same (row_bytes i e) (part image.now at 96)) × (length (row_bytes i e) ≡ 96) }
+// Whether these bytes are the row of entry i.
+#[tactic(auto, using(crate::proofs::Turns::whole))]
+fn same_row(row: &[u8], i: usize, e: Entry) -> bool
+    requires { i < 16 }
+    ensures { (result ≡ same (row_bytes i e) row.now) × (length (row_bytes i e) ≡ 96) }
 {
-    let mut row = [0u8; 96];
-    put_row(&mut row, 0, i, e);
-    let end = at + 96;
-    keys::same_bytes(&row, &image[at..end])
+    let mut written = [0u8; 96];
+    put_row(&mut written, 0, i, e);
+    keys::same_bytes(&written, row)
 }
 
 // Whether the rows of these entries are the image's, byte by byte.
+#[tactic(auto, using(crate::proofs::Turns::count_step))]
 pub fn same_rows(image: &[u8], entries: [Entry; 16]) -> bool
     requires { 32 + 96 * count entries ≤ length image.now }
     ensures { result ≡ same (rows_from 0 entries) (part image.now 32 (96 * count entries)) }
 {
     let mut same = true;
     let mut at = 32;
-    let mut i = 0;
-    while i < 16 {
-        let e = entries[i];
+    for (i, e) in entries.iter().enumerate() {
         if e.used {
-            same = same & same_row(image, at, i, e);
-            at += 96;
+            let end = at + 96;
+            same &= same_row(&image[at..end], i, *e);
+            at = end;
         }
-        i += 1;
     }
     same
 }
 
 // ---- Read
 
-fn read_state(image: &[u8], at: usize) -> BlockState
-    requires { at + 96 ≤ length image.now }
-    ensures { result ≡ (read_entry (part image.now at 96)).state }
+#[tactic(auto, unfolding(image_format::specs::Rows::read_entry))]
+fn read_state(row: &[u8]) -> BlockState
+    requires { length row.now ≡ 96 }
+    ensures { result ≡ (read_entry row.now).state }
 {
     BlockState {
         assembled: Assembled {
-            len: big_endian::number_at(image, at + 12, 4) as u32,
-            exponent: image[at + 2],
+            len: big_endian::number_at(row, 12, 4) as u32,
+            exponent: row[2],
         },
         cached: Cached {
-            held: image[at + 3] == 1,
-            head: image[at + 4],
-            payload: big_endian::number_at(image, at + 16, 4) as u32,
+            held: row[3] == 1,
+            head: row[4],
+            payload: big_endian::number_at(row, 16, 4) as u32,
         },
         recorded: Recorded {
-            given: image[at + 5] == 1,
-            more: image[at + 6] == 1,
-            exponent: image[at + 7],
-            num: big_endian::number_at(image, at + 8, 4) as u32,
+            given: row[5] == 1,
+            more: row[6] == 1,
+            exponent: row[7],
+            num: big_endian::number_at(row, 8, 4) as u32,
         },
     }
 }
 
-fn read_entry(image: &[u8], at: usize) -> Entry
-    requires { at + 96 ≤ length image.now }
-    ensures { result ≡ read_entry (part image.now at 96) }
+#[tactic(auto, unfolding(image_format::specs::Rows::read_entry, pieces::specs::Memory::part))]
+fn read_entry(row: &[u8]) -> Entry
+    requires { length row.now ≡ 96 }
+    ensures { result ≡ read_entry row.now }
 {
-    let from = at + 32;
-    let end = at + 96;
-    let key = named_keys::read_key(&image[from..end], image[at + 1]);
-    let state = read_state(image, at);
     Entry {
-        key: key,
+        key: named_keys::read_key(&row[32..96], row[1]),
         used: true,
-        touched: big_endian::number_at(image, at + 24, 8),
-        state: state,
+        touched: big_endian::number_at(row, 24, 8),
+        state: read_state(row),
     }
 }
 
@@ -168,17 +146,14 @@ pub fn read_rows(image: &[u8], n: usize) -> [Entry; 16]
     requires { 32 + 96 * n ≤ length image.now }
     ensures { (result ≡ read_rows (replicate 16 free) n (drop 32 image.now)) × (length result ≡ 16) }
 {
-    let e = entries::free_entry();
-    let mut entries = [e; 16];
-    let mut at = 32;
-    let mut j = 0;
-    while j < n {
-        let number = wide::usize_of_u8(image[at]);
+    let mut entries = [entries::free_entry(); 16];
+    for j in 0..n {
+        let at = 32 + 96 * j;
+        let row = &image[at..at + 96];
+        let number = usize::from(row[0]);
         if number < 16 {
-            entries[number] = read_entry(image, at);
+            entries[number] = read_entry(row);
         }
-        at += 96;
-        j += 1;
     }
     entries
 }

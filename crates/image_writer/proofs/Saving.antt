@@ -1,18 +1,17 @@
 -- An image is put part by part; and what saving comes to, by its cases. Assumes nothing.
-use Prim.Native.Nat.{ℕ, ◌≤◌, ◌<◌}
-use mathlib.Core.Bool.{Bool, true, false, ◌&&◌}
-use mathlib.Core.Path.{◌≡◌, refl, sym, ◌∙◌}
+use Prim.Native.Nat.{ℕ, ◌≤◌}
+use mathlib.Core.Bool.{Bool, true, ◌&&◌}
+use mathlib.Core.Path.{◌≡◌, sym, ◌∙◌}
 use mathlib.Core.List.{List}
 use native.Mathlib.Omega.{arith}
 use lib.ListN.{length}
-use borrow.Author.Tests.{lt-ltb, le-ltb, eqb-true}
+use borrow.Author.Tests.{eqb-true}
 use Rattle.pieces.specs.Memory.{patch, Put}
 use Rattle.pieces.proofs.Puts.{put_then}
 use Rattle.pieces.proofs.Tests.{ands}
 use Rattle.config.specs.declared.Config.{Config}
 use Rattle.gathering.specs.Gather.{gathered}
 use Rattle.entries.specs.declared.Entry.{Entry}
-use Rattle.block_table.specs.declared.Table.{Table}
 use Rattle.block_table.specs.Table.{table_ok}
 use Rattle.block_table.proofs.TableFits.{table_fits, row_ok}
 use Rattle.block_table.proofs.Row.{length-sweep}
@@ -22,7 +21,7 @@ use Rattle.image_format.specs.Rows.{rows_from}
 use Rattle.image_format.specs.Image.{assembled_in, cached_in, header, image_bytes}
 use Rattle.image_measure.specs.Room.{Rooms}
 use Rattle.image_measure.proofs.Rooms.{rooms}
-use Rattle.image_writer.specs.Save.{live_entries, image_with, image_of, needed, saving, length_asked, saved, output_after}
+use Rattle.image_writer.specs.Save.{live_entries, image_with, needed}
 
 -- the header, the rows, the upload bytes and the response bytes, one after another
 pub image-put : (c : Config) (clock : ℕ) (entries : List Entry) (upload response : List ℕ) {m m₁ : List ℕ} {a : ℕ} {m₂ : List ℕ} {b : ℕ} {m₃ : List ℕ} {d : ℕ} {m₄ : List ℕ} {e : ℕ}
@@ -31,39 +30,13 @@ pub image-put : (c : Config) (clock : ℕ) (entries : List Entry) (upload respon
 unfolding image_bytes
 image-put c clock entries upload response head rows ups downs = (put_then head (put_then rows (put_then ups downs))).is
 
--- ---- the needed length
-
-module _ (c : Config) (t : Table) where
-  pub not-asked : (config_ok c && table_ok c t) ≡ false → saving 1 0 ≡ length_asked c t
-  unfolding length_asked
-  not-asked e = rw e
-
-  pub asked : (config_ok c && table_ok c t) ≡ true → (n : ℕ) → n ≡ needed c t → saving 0 n ≡ length_asked c t
-  unfolding length_asked
-  asked e n h = rw (e, h)
-
 -- ---- saving
 
 module _ (c : Config) (w : World) (out : List ℕ) where
   abbrev limits : Bool
   limits = config_ok c && memories_ok c (length w.upload) (length w.response) && table_ok c w.table
 
-  abbrev Saves : ℕ → ℕ → List ℕ → Type 0
-  Saves refusal n after = (saving refusal n ≡ saved c w (length out)) × (after ≡ output_after c w out (saving refusal n))
-
-  pub off-limits : limits ≡ false → Saves 1 0 out
-  unfolding saved output_after
-  off-limits e = (rw e, refl)
-
   module _ (inside : limits ≡ true) (n : ℕ) (is : n ≡ needed c w.table) where
-    pub no_room_lem : length out < n → Saves 22 n out
-    unfolding saved output_after
-    no_room_lem h = (rw (inside, ← is, lt-ltb (length out) n h), refl)
-
-    pub written : (after : List ℕ) → n ≤ length out → after ≡ patch out 0 (image_bytes (image_of c w)) → Saves 0 n after
-    unfolding saved output_after
-    written after h e = (rw (inside, ← is, le-ltb (length out) n h), e)
-
     -- the memories have what the live entries have, and the output has room for the image
     pub room : length (live_entries c w.table) ≡ 16 → n ≤ length out → Rooms c (live_entries c w.table) (length w.upload) (length w.response) (length out)
     unfolding memories_ok

@@ -1,4 +1,5 @@
 -- The verdict by its cases, and what a place tells. Assumes nothing.
+use Rattle.std.specs.Prelude.{Result, Ok, Err}
 use Prim.Native.Nat.{ℕ, ◌+◌, ◌*◌, ◌^◌, ◌≤◌, ◌<◌}
 use mathlib.Core.Path.{◌≡◌, refl, sym, ap, ◌∙◌}
 use mathlib.Core.Bool.{Bool, true, false, cond, not, ◌&&◌}
@@ -7,6 +8,8 @@ use native.Mathlib.Omega.{arith}
 use lib.ListN.{length}
 use lib.Dec.{leb, ltb}
 use borrow.Author.Tests.{ltb-false, leb-true, leb-false, eqb-true, lt-ltb, le-ltb}
+use Rattle.refusal.specs.declared.Refusal.{Refusal}
+use Rattle.refusal.specs.declared.Refusal.TheVariants as refusal
 use Rattle.pieces.proofs.Memory.{piece-order}
 use Rattle.config.specs.declared.Config.{Config}
 use Rattle.pieces.proofs.Tests.{ands, by_cases}
@@ -28,8 +31,6 @@ use Rattle.block_table.proofs.Turns.{sweep-kept}
 use Rattle.block_table.proofs.TableFits.{table_fits}
 use Rattle.places.proofs.Put.{opened-fits}
 use Rattle.judge.specs.declared.Lengths.{Lengths}
-use Rattle.judge.specs.declared.Verdict.{Verdict}
-use Rattle.judge.specs.declared.Verdict.TheVariants.{Refused, Place}
 use Rattle.judge.specs.Limits.{config_ok, memories_ok}
 use Rattle.judge.specs.Verdict.{message_ok, limits_ok, verdict_at, verdict_of, verdict_by, HasPlace}
 
@@ -55,18 +56,18 @@ each_within c t h = search ands
 -- ---- the verdict by its cases
 
 module _ (c : Config) (s : Sight) (time : ℕ) (n : Lengths) where
-  abbrev by-sight : Verdict
+  abbrev by-sight : Result ℕ Refusal
   by-sight = verdict_by c s time n
 
   abbrev numbers : Bool
   numbers = config_ok c && memories_ok c n.upload n.response
 
-  pub off-numbers : numbers ≡ false → Refused 1 ≡ by-sight
+  pub off-numbers : numbers ≡ false → Err refusal.OffLimits ≡ by-sight
   unfolding verdict_by
   off-numbers a = rw a
 
   module _ (a : numbers ≡ true) where
-    pub off-message : message_ok n.bare n.payload n.head ≡ false → Refused 1 ≡ by-sight
+    pub off-message : message_ok n.bare n.payload n.head ≡ false → Err refusal.OffLimits ≡ by-sight
     unfolding verdict_by
     off-message m = rw (a, m)
 
@@ -77,7 +78,7 @@ module _ (c : Config) (s : Sight) (time : ℕ) (n : Lengths) where
 -- ---- the verdict on a table
 
 module _ (c : Config) (t : Table) (time : ℕ) (key : Name) (n : Lengths) where
-  abbrev verdict : Verdict
+  abbrev verdict : Result ℕ Refusal
   verdict = verdict_of c t time key n
 
   abbrev row : List Entry
@@ -112,7 +113,7 @@ module _ (c : Config) (t : Table) (time : ℕ) (key : Name) (n : Lengths) where
       (λ f. by_cases stands (λ y. rw (limits-are, f, y)) (λ y. rw (limits-are, f, y)))
 
   -- the verdict as the chain of checks 1, 2 and 3
-  pub verdict-is : verdict ≡ cond (not (limits_ok c t key n)) (Refused 1) (cond (ltb time t.clock) (Refused 2) (cond (leb 16 there) (Refused 3) (Place there)))
+  pub verdict-is : verdict ≡ cond (not (limits_ok c t key n)) (Err refusal.OffLimits) (cond (ltb time t.clock) (Err refusal.ClockBack) (cond (leb 16 there) (Err refusal.TableFull) (Ok there)))
   unfolding verdict_of place_of
   verdict-is =
       by_cases (leb 16 there)
@@ -126,25 +127,25 @@ module _ (c : Config) (t : Table) (time : ℕ) (key : Name) (n : Lengths) where
     pub is : i ≡ there
     pub below : i < 16
 
-  pub place-tells : (i : ℕ) → verdict ≡ Place i → Placed i
+  pub place-tells : (i : ℕ) → verdict ≡ Ok i → Placed i
   place-tells i h =
       by_cases (limits_ok c t key n)
       (λ l. by_cases (ltb time t.clock)
-      (λ e. absurd (refuses 2 (rw (l, e) at chain)))
+      (λ e. absurd (refuses refusal.ClockBack (rw (l, e) at chain)))
       (λ e. by_cases (leb 16 there)
-      (λ p. absurd (refuses 3 (rw (l, e, p) at chain)))
+      (λ p. absurd (refuses refusal.TableFull (rw (l, e, p) at chain)))
       (λ p.
       let same : there ≡ i = same_place there i (rw (l, e, p) at chain) in
       record { limits = l; clock = ltb-false time t.clock e; is = sym same; below = rw (← same) (leb-false 16 there p) })))
-      (λ l. absurd (refuses 1 (rw l at chain)))
+      (λ l. absurd (refuses refusal.OffLimits (rw l at chain)))
     where
-      chain : cond (not (limits_ok c t key n)) (Refused 1) (cond (ltb time t.clock) (Refused 2) (cond (leb 16 there) (Refused 3) (Place there))) ≡ Place i
+      chain : cond (not (limits_ok c t key n)) (Err refusal.OffLimits) (cond (ltb time t.clock) (Err refusal.ClockBack) (cond (leb 16 there) (Err refusal.TableFull) (Ok there))) ≡ Ok i
       chain = sym verdict-is ∙ h
 
-      refuses : (m : ℕ) → Refused m ≡ Place i → ⊥
+      refuses : (m : Refusal) → Err m ≡ Ok i → ⊥
       refuses m e = let no : ◌≡◌ {A = ℕ} 0 1 = cc in omega arith
 
-      same_place : (j k : ℕ) → Place j ≡ Place k → j ≡ k
+      same_place : (j k : ℕ) → ◌≡◌ {A = Result ℕ Refusal} (Ok j) (Ok k) → j ≡ k
       same_place j k e = cc
 
 -- ---- what a place tells
@@ -164,7 +165,7 @@ pub record AtPlace (c : Config) (t : Table) (time : ℕ) (key : Name) (n : Lengt
   -- what is assembled lies in its piece
   pub holds : length t.entries ≡ 16 → (opened key (sweep c.lifetime time t.entries)).state.assembled.len ≤ c.upload
 
-pub at_place : (c : Config) (t : Table) (time : ℕ) (key : Name) (n : Lengths) (i : ℕ) → verdict_of c t time key n ≡ Place i → AtPlace c t time key n i
+pub at_place : (c : Config) (t : Table) (time : ℕ) (key : Name) (n : Lengths) (i : ℕ) → verdict_of c t time key n ≡ Ok i → AtPlace c t time key n i
 unfolding limits_ok memories_ok message_ok
 at_place c t time key n i h =
     let p = place-tells c t time key n i h in

@@ -7,14 +7,7 @@ ghost use Rattle.judge.specs.Verdict.{message_ok, verdict_at, verdict_by};
 
 use config::Config;
 use places::{Place, Sight};
-
-// What the checks before a step come to.
-#[derive(Clone, Copy)]
-pub enum Verdict {
-    Refused(u8),
-    // The entry's index.
-    Place(usize),
-}
+use refusal::Refusal;
 
 // The lengths of both memories, and of the message: without payload, of its payload, and of its head (0 for a request).
 #[derive(Clone, Copy)]
@@ -35,10 +28,10 @@ fn between(least: u64, n: u64, most: u64) -> bool
 pub fn config_ok(config: Config) -> bool
     ensures { result ≡ config_ok config }
 {
-    between(1, wide::u64_of_usize(config.limit), 65535)
+    between(1, config.limit as u64, 65535)
         & between(1, config.lifetime, 4294967295)
-        & between(16, wide::u64_of_usize(config.upload), 16777216)
-        & between(16, wide::u64_of_usize(config.response), 65536)
+        & between(16, config.upload as u64, 16777216)
+        & between(16, config.response as u64, 65536)
 }
 
 fn memories_ok(config: Config, u: usize, v: usize) -> bool
@@ -64,38 +57,38 @@ fn message_ok(bare: usize, payload: usize, head: usize) -> bool
     (bare <= 65535) & (payload <= 65535) & (head <= 128)
 }
 
-// What a place comes to: refusal 1 comes before the clock, refusal 3 after it.
-fn verdict_at(early: bool, place: Place) -> Verdict
+// The entry's index, by its place: that it is off the limits comes before the clock, that there is none after it.
+fn verdict_at(early: bool, place: Place) -> Result<usize, Refusal>
     ensures { result ≡ verdict_at early place }
 {
     match place {
-        Place::OffLimits => Verdict::Refused(1),
+        Place::OffLimits => Err(Refusal::OffLimits),
         Place::None => {
             if early {
-                Verdict::Refused(2)
+                Err(Refusal::ClockBack)
             } else {
-                Verdict::Refused(3)
+                Err(Refusal::TableFull)
             }
         }
         Place::At(i) => {
             if early {
-                Verdict::Refused(2)
+                Err(Refusal::ClockBack)
             } else {
-                Verdict::Place(i)
+                Ok(i)
             }
         }
     }
 }
 
-// Judges a call by what is seen of the table, and by numbers.
-pub fn judge(config: Config, sight: Sight, time: u64, lengths: Lengths) -> Verdict
+// Judges a call by what is seen of the table, and by numbers: the index of the entry that it is for.
+pub fn judge(config: Config, sight: Sight, time: u64, lengths: Lengths) -> Result<usize, Refusal>
     ensures { result ≡ verdict_by config sight time lengths }
 {
     if !numbers_ok(config, lengths.upload, lengths.response) {
-        return Verdict::Refused(1);
+        return Err(Refusal::OffLimits);
     }
     if !message_ok(lengths.bare, lengths.payload, lengths.head) {
-        return Verdict::Refused(1);
+        return Err(Refusal::OffLimits);
     }
     let place = sight.place;
     verdict_at(time < sight.clock, place)

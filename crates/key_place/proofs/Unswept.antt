@@ -1,16 +1,38 @@
 -- The place of a key, found on the row before it is swept. Assumes nothing.
-use mathlib.Core.Path.{◌≡◌, refl}
+use mathlib.Core.Path.{◌≡◌, refl, sym}
 use mathlib.Core.List.{List, [], ◌∷◌, map}
-use mathlib.Core.Bool.{Bool}
+use mathlib.Core.Bool.{Bool, true, false, cond}
 use Prim.Native.Nat.{ℕ, ◌≤◌, ◌<◌}
-use borrow.Author.Tests.{lt-ltb, le-ltb}
+use native.Mathlib.Omega.{arith}
+use lib.Dec.{ltb}
+use borrow.Author.Tests.{lt-ltb, le-ltb, ltb-true, ltb-false}
 use Rattle.entries.specs.declared.Entry.{Entry}
 use Rattle.keys.specs.Lists.{find}
 use Rattle.keys.specs.Keys.{Name}
 use Rattle.entries.specs.Entries.{holds, swept, sweep, unused}
-use Rattle.key_place.specs.Place.{place}
+use Rattle.std.specs.Prelude.{Some, None}
+use Rattle.key_place.specs.Place.{row_index, place}
 use Rattle.entries.specs.Quick.{holds_live, not_live}
 use Rattle.entries.proofs.Cases.{holds-swept, unused-swept}
+
+pub row_index-here : {i n : ℕ} → i ≡ n → i < 16 → Some i ≡ row_index n
+row_index-here {i} e h = rw (← e, lt-ltb i 16 h)
+
+some-of : (b : Bool) (n : ℕ) {i : ℕ} → ltb n 16 ≡ b → cond b (Some n) None ≡ Some i → (i ≡ n) × (i < 16)
+some-of true n {i} l e =
+    let is : n ≡ i = cc in
+    (sym is, omega (arith, ltb-true n 16 l, is))
+some-of false n l e = absurd (cc)
+
+pub row_index-some : (n : ℕ) {i : ℕ} → row_index n ≡ Some i → (i ≡ n) × (i < 16)
+row_index-some n e = some-of (ltb n 16) n refl e
+
+none-of : (b : Bool) (n : ℕ) → ltb n 16 ≡ b → cond b (Some n) None ≡ None → 16 ≤ n
+none-of true n l e = absurd (cc)
+none-of false n l e = ltb-false n 16 l
+
+pub row_index-none : (n : ℕ) → row_index n ≡ None → 16 ≤ n
+row_index-none n e = none-of (ltb n 16) n refl e
 
 find-swept : (p q : Entry → Bool) (lifetime time : ℕ) → ((e : Entry) → p (swept lifetime time e) ≡ q e) → (l : List Entry) → find p (map (swept lifetime time) l) ≡ find q l
 find-swept p q lifetime time is [] = refl

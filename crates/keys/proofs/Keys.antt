@@ -8,6 +8,7 @@ use native.Mathlib.Omega.{arith}
 use lib.ListN.{length, take, replicate, length-append, length-replicate}
 use lib.Seq.{take-append_seam, length-take-le}
 use lib.Dec.{leb, eqb}
+use lib.Pointwise.{pointwise}
 use borrow.Author.Tests.{leb-true, eqb-true, eq-eqb}
 use Rattle.pieces.specs.Memory.{patch, Put}
 use Rattle.pieces.proofs.Puts.{put-length, put_then, put_as}
@@ -30,6 +31,18 @@ same-eq [] (b ∷ t) e = absurd (false≢true e)
 same-eq (a ∷ s) [] e = absurd (false≢true e)
 same-eq (a ∷ s) (b ∷ t) e =
     ap₂ ◌∷◌ (eqb-true a b (and_left (eqb a b) (same s t) e)) (same-eq s t (and_right (eqb a b) (same s t) e))
+
+-- what `==` answers at slices
+pub same-pairs : (s t : Name) → pointwise eqb s t ≡ same s t
+unfolding same
+same-pairs [] [] = refl
+same-pairs [] (b ∷ t) = refl
+same-pairs (a ∷ s) [] = refl
+same-pairs (a ∷ s) (b ∷ t) = rw (same-pairs s t)
+
+pub zero-pairs : (l : List ℕ) → pointwise eqb l (replicate (length l) 0) ≡ all (λ b. eqb b 0) l
+zero-pairs [] = refl
+zero-pairs (x ∷ l) = rw (zero-pairs l)
 
 -- a key that is stored reads back as it was
 pub key-stored : (k : Name) → key_of (stored k) ≡ k

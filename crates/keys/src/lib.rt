@@ -7,6 +7,7 @@ ghost use Rattle.pieces.specs.Memory.{Put};
 ghost use Rattle.keys.specs.Lists.{all};
 ghost use Rattle.keys.specs.Keys.{same, key_of, stored_ok, stored, no_key, is_no_key, key_sized, tag_of};
 
+// Without a derived `==`, which would compare the bytes past `len`, too.
 #[repr(C)]
 #[derive(Clone, Copy)]
 pub struct Key {
@@ -15,6 +16,7 @@ pub struct Key {
 }
 
 // A key as a call names it, copied once: whether it is within its limits, and then its tag, and the key as an entry stores it.
+// Not an `Option`: the walk over the table is made for a bad key, too, by the tag 0 and no key, and would take it apart for each.
 #[derive(Clone, Copy)]
 pub struct NamedKey {
     pub ok: bool,
@@ -36,39 +38,24 @@ pub fn no_key() -> Key
     ensures { result ≡ no_key }
 {
     Key {
-        bytes: [0u8; 64],
+        bytes: [0; 64],
         len: 0,
     }
-}
-
-// Each byte is looked at, since a loop that ends early is not vectorised.
-fn zero_bytes(bytes: [u8; 64]) -> bool
-    ensures { (result ≡ all (λ b. eqb b 0) bytes) × (length bytes ≡ 64) }
-{
-    let mut zero = true;
-    let mut i = 0;
-    while i < 64 {
-        zero = zero & (bytes[i] == 0);
-        i += 1;
-    }
-    zero
 }
 
 pub fn is_no_key(key: Key) -> bool
     ensures { (result ≡ is_no_key key) × (key_sized key ≡ true) }
 {
-    let bytes = key.bytes;
-    zero_bytes(bytes) & (key.len == 0)
+    (key.bytes == [0; 64]) & (key.len == 0)
 }
 
 // ---- The bytes of a stored key: the first `len`, all of them where `len` is above 64
 
 // How many they are. Its contract gives the proof the length of the array, too.
-fn cut(bytes: [u8; 64], len: u8) -> usize
-    ensures { (take result bytes ≡ take len bytes) × (result ≤ 64) × (length bytes ≡ 64) }
+fn cut(key: Key) -> usize
+    ensures { (take result key.bytes ≡ key_of key) × (result ≤ 64) × (length key.bytes ≡ 64) }
 {
-    let n = wide::usize_of_u8(len);
-    if n <= 64 { n } else { 64 }
+    usize::from(key.len).min(64)
 }
 
 // Writes a key of 64 bytes at an index: its own, with zeros behind them.
@@ -76,50 +63,36 @@ pub fn put_key(out: &mut [u8], at: usize, key: Key) -> usize
     requires { at + 64 ≤ length out.old }
     ensures { (Put out.old at (stored (key_of key)).bytes out.new result) × (length (stored (key_of key)).bytes ≡ 64) }
 {
-    let bytes = key.bytes;
-    let n = cut(bytes, key.len);
-    let to = pieces::put(out, at, &bytes[..n]);
+    let n = cut(key);
+    let to = pieces::put(out, at, &key.bytes[..n]);
     pieces::zero_fill(out, to, 64 - n);
     at + 64
 }
 
-// Each byte is looked at, since a loop that ends early is not vectorised.
 pub fn same_bytes(a: &[u8], b: &[u8]) -> bool
     ensures { result ≡ same a.now b.now }
 {
-    if a.len() != b.len() {
-        return false;
-    }
-    let mut equal = true;
-    let mut i = 0;
-    while i < a.len() {
-        equal = equal & (a[i] == b[i]);
-        i += 1;
-    }
-    equal
+    a == b
 }
 
 // The stored key is the one that these bytes name.
 pub fn same_as(key: &[u8], stored: Key) -> bool
     ensures { result ≡ same key.now (key_of stored) }
 {
-    let bytes = stored.bytes;
-    let n = cut(bytes, stored.len);
-    same_bytes(key, &bytes[..n])
+    let n = cut(stored);
+    same_bytes(key, &stored.bytes[..n])
 }
 
 pub fn same_key(a: Key, b: Key) -> bool
     ensures { result ≡ same (key_of a) (key_of b) }
 {
-    let bytes = a.bytes;
-    let n = cut(bytes, a.len);
-    same_as(&bytes[..n], b)
+    let n = cut(a);
+    same_as(&a.bytes[..n], b)
 }
 
 // Keys that are the same have one tag, which is odd.
 pub fn tag(key: Key) -> u32
     ensures { result ≡ tag_of (key_of key) }
 {
-    let bytes = key.bytes;
-    tags::fold(digest::digest(bytes, cut(bytes, key.len)))
+    tags::fold(digest::digest(key.bytes, cut(key)))
 }

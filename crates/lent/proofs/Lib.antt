@@ -1,3 +1,2 @@
-pub mod Forms
-pub mod Sweeps
 pub mod Same
+pub mod Sweeps

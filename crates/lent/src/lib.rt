@@ -6,20 +6,18 @@ ghost use Rattle.block_state.specs.Contract.{asking, replying};
 ghost use Rattle.entries.specs.Entries.{holds, sweep};
 ghost use Rattle.key_place.specs.Place.{place};
 ghost use Rattle.lent_steps.specs.Lent.{request_lent, response_lent, Leaves};
-ghost use Rattle.lent.specs.Row.{first_of, seen_next};
+ghost use Rattle.lent.specs.Row.{seen_next};
 
 use block_state::{RequestNumbers, ResponseNumbers};
 use config::Config;
 use entries::Entry;
 use replies::Reply;
 
-// What a walk has seen of the row so far: the first entry for the key and the first free one, each the number of entries seen if there is none;
-// and the place that sixteen entries seen so would give.
+// What a walk has seen of the row so far: the first entry for the key and the first free one.
 #[derive(Clone, Copy)]
 pub struct Seen {
-    pub found: usize,
-    pub free: usize,
-    pub place: usize,
+    pub found: Option<usize>,
+    pub free: Option<usize>,
 }
 
 // A request on an entry that is lent, in use for its key: as `block_handler_find_and_free` left it, or a new key's: used, with its key, all else zeros. Its state is
@@ -67,46 +65,20 @@ pub extern "C" fn block_handler_lent_response<'a>(
     out.reply
 }
 
+#[tactic(auto, unfolding(entries::specs::Entries::holds))]
 fn holds_key(e: Entry, key: &[u8]) -> bool
     ensures { result ≡ holds key.now e }
 {
-    if e.used {
-        let stored = e.key;
-        return keys::same_as(key, stored);
-    }
-    false
-}
-
-// The first that passes among those seen, once the next one, i, is seen too.
-fn first_of(found: usize, i: usize, next: usize, passes: bool) -> usize
-    ensures { result ≡ first_of found i next passes }
-{
-    if found < i {
-        return found;
-    }
-    if passes {
-        return i;
-    }
-    next
+    e.used && keys::same_as(key, e.key)
 }
 
 // What is seen once entry i is looked at with the key.
-fn see(seen: Seen, i: usize, next: usize, e: Entry, key: &[u8]) -> Seen
-    ensures { result ≡ seen_next seen i next e key.now }
+fn see(seen: Seen, i: usize, e: Entry, key: &[u8]) -> Seen
+    ensures { result ≡ seen_next seen i e key.now }
 {
-    let found = first_of(seen.found, i, next, holds_key(e, key));
-    let free = first_of(seen.free, i, next, !e.used);
-    if found < 16 {
-        return Seen {
-            found,
-            free,
-            place: found,
-        };
-    }
     Seen {
-        found,
-        free,
-        place: free,
+        found: seen.found.or(holds_key(e, key).then_some(i)),
+        free: seen.free.or((!e.used).then_some(i)),
     }
 }
 
@@ -122,17 +94,16 @@ pub extern "C" fn block_handler_find_and_free(
     ensures { (entries.new ≡ sweep lifetime time entries.old) × (result ≡ place key.now (sweep lifetime time entries.old)) }
 {
     let mut seen = Seen {
-        found: 0,
-        free: 0,
-        place: 0,
+        found: None,
+        free: None,
     };
-    let mut i = 0;
-    while i < entries.len() {
-        let left = entries::swept_entry(entries[i], lifetime, time);
-        entries[i] = left;
-        let next = i + 1;
-        seen = see(seen, i, next, left, key);
-        i = next;
+    for (i, e) in entries.iter_mut().enumerate() {
+        *e = entries::swept_entry(*e, lifetime, time);
+        seen = see(seen, i, *e, key);
     }
-    seen.place
+    let found = seen.found.unwrap_or(entries.len());
+    if found < 16 {
+        return found;
+    }
+    seen.free.unwrap_or(entries.len())
 }

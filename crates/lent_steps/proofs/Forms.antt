@@ -5,6 +5,7 @@ use mathlib.Core.Path.{◌≡◌, refl, ap, ◌∙◌}
 use mathlib.Core.List.{List}
 use native.Mathlib.Omega.{arith}
 use borrow.Author.Tests.{eqb-true, ltb-true, leb-true}
+use Rattle.refusal.specs.declared.Refusal.TheVariants.{OffLimits}
 use Rattle.config.specs.declared.Config.{Config}
 use Rattle.block_state.specs.declared.BlockState.{BlockState}
 use Rattle.block_state.specs.declared.Answer.{Answer}
@@ -45,7 +46,7 @@ module _ (room : Bool) (time : ℕ) (e : Entry) (u : List ℕ) (g : Left) where
   with-room h = rw h
 
   module _ (e' : Entry) (r : Reply) where
-    pub leaves_all : room ≡ false → (e' ≡ e) × (r ≡ reply_of (Refused 1)) → Leaves (if_room room time e u g) e' u r
+    pub leaves_all : room ≡ false → (e' ≡ e) × (r ≡ reply_of (Refused OffLimits)) → Leaves (if_room room time e u g) e' u r
     unfolding if_room
     leaves_all h is = rw h (is.0, refl, is.1)
 

@@ -1,5 +1,6 @@
 -- A call on an entry that is lent, by the same step as on a table by value.
 use Rattle.std.specs.Prelude.{ℕ, Bool, cond, ◌&&◌, ◌≡◌, List, length, leb, ltb, eqb}
+use Rattle.refusal.specs.declared.Refusal.TheVariants.{OffLimits}
 use Rattle.config.specs.declared.Config.{Config}
 use Rattle.block_state.specs.declared.Answer.{Answer}
 use Rattle.block_state.specs.declared.Answer.TheVariants.{Refused}
@@ -37,7 +38,7 @@ response_room c time e n h = usable c c.response time e n && leb h 128
 
 -- With room, the entry is touched, and keeps its key; its state and its piece are those that the step leaves. Else refusal 1, which "leaves everything".
 unfoldable pub if_room : Bool → ℕ → Entry → List ℕ → Left → Lent
-if_room room time e u g = cond room (lent (in_use e.key time g.state) g.piece g.answer) (lent e u (Refused 1))
+if_room room time e u g = cond room (lent (in_use e.key time g.state) g.piece g.answer) (lent e u (Refused OffLimits))
 
 abbrev pub request_lent : Config → ℕ → ℕ → ℕ → Entry → List ℕ → Request → Lent
 request_lent c home away time e u r = if_room (request_room c home away time e (length u)) time e u (step_request c home away e.state u r)

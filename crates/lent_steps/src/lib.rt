@@ -10,6 +10,7 @@ ghost use Rattle.lent_steps.specs.Lent.{usable, request_room, response_room, req
 use block_state::{Answer, RequestNumbers, ResponseNumbers, Stepped};
 use config::Config;
 use entries::Entry;
+use refusal::Refusal;
 use replies::Reply;
 
 // What a call leaves of an entry, and its answer in numbers.
@@ -46,9 +47,9 @@ fn response_room(config: Config, time: u64, e: Entry, n: usize, head: usize) -> 
 }
 
 fn refused(e: Entry) -> Outcome
-    ensures { (result.entry ≡ e) × (result.reply ≡ reply_of (Answer.Refused 1)) }
+    ensures { (result.entry ≡ e) × (result.reply ≡ reply_of (Answer.Refused Refusal.OffLimits)) }
 {
-    let reply = replies::reply_of(Answer::Refused(1));
+    let reply = replies::reply_of(Answer::Refused(Refusal::OffLimits));
     Outcome { entry: e, reply }
 }
 
@@ -61,10 +62,10 @@ fn touched(e: Entry, time: u64, step: Stepped) -> Outcome
     let key = e.key;
     let state = step.state;
     let entry = Entry {
-        key: key,
+        key,
         used: true,
         touched: time,
-        state: state,
+        state,
     };
     Outcome { entry, reply }
 }

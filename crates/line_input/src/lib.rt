@@ -1,9 +1,8 @@
 // The lines of standard input, of any length: read on, with the text that has not ended kept; and output that is written.
 #![tactic(auto)]
 
-ghost use Rattle.std.specs.Prelude.{◌≡◌, true, cond, ◌+◌, ◌-◌, ◌^◌, ◌≤◌, ◌<◌, min, eqb, length, take, replicate, pos};
-ghost use Rattle.std.specs.Int.Signed.{lt_z};
-ghost use Rattle.io.specs.Counts.{IsPrefixLen, clamp_len};
+ghost use Rattle.std.specs.Prelude.{◌≡◌, true, false, cond, ◌+◌, ◌-◌, ◌^◌, ◌≤◌, ◌<◌, min, eqb, length, take, replicate, IfSome, MatchOption};
+ghost use Rattle.io.specs.Counts.{IsPrefixLen};
 ghost use Rattle.pieces.specs.Memory.{patch, part};
 ghost use Rattle.line_input.specs.Sizes.{longest, text_size};
 
@@ -23,25 +22,30 @@ pub fn text() -> [u8; TEXT]
     ensures value { result ≡ replicate text_size 0 }
     ensures text_size_value { text_size ≡ length result }
 {
-    [0; TEXT]
+    buffers::zeros()
 }
 
-// Where the text ends now, and whether the read failed.
+// Where the text ends now, and whether the read failed. A failed read has an end too: the bytes that were held stay.
 #[derive(Clone, Copy)]
 pub struct Took {
     pub end: usize,
     pub failed: bool,
 }
 
-// What a read into this room answered, behind the bytes that are held: a negative number is a failure.
-fn taken(held: usize, got: isize, room: &[u8]) -> Took
-    requires { held + length room.now < 2 ^ 64 }
-    ensures end_value { (result.end ≡ held + clamp_len got (length room.now)) × (result.failed ≡ lt_z got (pos 0)) }
-    ensures held_le_end { (held ≤ result.end) × (result.end ≤ held + length room.now) }
+// How many bytes a read brought behind those that are held; none, where it failed.
+fn taken(held: usize, got: Option<usize>) -> Took
+    requires { IfSome got (λ n. held + n < 2 ^ 64) }
+    ensures { MatchOption got ((result.end ≡ held) × (result.failed ≡ true)) (λ n. (result.end ≡ held + n) × (result.failed ≡ false)) }
 {
-    Took {
-        end: held + io::count(got, room),
-        failed: got < 0,
+    match got {
+        Some(n) => Took {
+            end: held + n,
+            failed: false,
+        },
+        None => Took {
+            end: held,
+            failed: true,
+        },
     }
 }
 
@@ -51,11 +55,8 @@ pub fn read_on<R: Read>(input: &mut R, text: &mut [u8], held: usize) -> Took
     ensures held_le_end { (held ≤ result.end) × (result.end ≤ length text.old) }
     ensures text_unchanged { take held text.new ≡ take held text.old }
 {
-    let got = match input.read(&mut text[held..]) {
-        Ok(n) => n as isize,
-        Err(_) => -1,
-    };
-    taken(held, got, &text[held..])
+    let got = input.read(&mut text[held..]).ok();
+    taken(held, got)
 }
 
 // Reads until the text is full or the input has ended; where a read fails, nothing counts as read.
@@ -79,21 +80,13 @@ pub fn read_full<R: Read>(input: &mut R, text: &mut [u8]) -> Took
 }
 
 // 0 once a read brings nothing; otherwise one fewer. It starts at 2^64 - 1 only so that the loop provably ends.
+#[tactic(auto, using(std::proofs::lemmas::Bool::Decides::nat_tests))]
 pub fn turns_left(turns: u64, held: usize, end: usize) -> u64
     requires { 0 < turns }
     ensures value { result ≡ cond (eqb end held) 0 (turns - 1) }
     ensures upper_bound { result < turns }
 {
-    if end == held {
-        return 0;
-    }
-    turns - 1
-}
-
-fn at_most(most: usize, n: usize) -> usize
-    ensures { result ≡ min n most }
-{
-    if most < n { most } else { n }
+    if end == held { 0 } else { turns - 1 }
 }
 
 // Moves what has not ended to the front of the buffer. More than a line can have is cut: it stays longer than any line that is read.
@@ -102,7 +95,7 @@ pub fn keep(text: &mut [u8], from: usize, end: usize) -> usize
     ensures value { result ≡ min (end - from) (longest + 1) }
     ensures text_after { text.new ≡ patch text.old 0 (part text.old from result) }
 {
-    let n = at_most(LONG, end - from);
+    let n = (end - from).min(LONG);
     moving::move_left(text, from, 0, n);
     n
 }

@@ -1,5 +1,5 @@
 -- What a line leaves of the lent memories, and which line it is. Assumes nothing.
-use mathlib.Core.Path.{◌≡◌, refl, sym, ap, ◌∙◌}
+use mathlib.Core.Path.{◌≡◌, refl, ap, ◌∙◌}
 use mathlib.Core.Bool.{Bool, true, false}
 use mathlib.Core.List.{List}
 use Prim.Native.Nat.{ℕ, ◌+◌, ◌-◌, ◌≤◌, ◌<◌}
@@ -13,7 +13,6 @@ use Rattle.call.specs.Call.{World}
 use Rattle.call.specs.Contract.{world}
 use Rattle.answer_text.specs.Answer.{unreadable_text}
 use Rattle.replay_control.specs.Control.{control_of}
-use Rattle.replay_control.specs.declared.Control.{Control}
 use Rattle.script_state.specs.declared.State.{State}
 use Rattle.pieces.specs.Memory.{Put}
 use Rattle.pieces.proofs.Puts.{put_as}
@@ -103,6 +102,3 @@ module _ (replay : Bool) (c : Config) (w : World) (n : ℕ) (l : List ℕ) where
   pub replay-line : length l ≤ longest → replay ≡ true → line_run replay c w n l ≡ controlled (control_of l) c w n l
   unfolding line_run
   replay-line h e = rw (le-ltb longest (length l) h, e)
-
-pub control-line : {r k : Control} (c : Config) (w : World) (n : ℕ) (l : List ℕ) → r ≡ control_of l → r ≡ k → controlled (control_of l) c w n l ≡ controlled k c w n l
-control-line c w n l f g = ap (λ (x : Control). controlled x c w n l) (sym f ∙ g)

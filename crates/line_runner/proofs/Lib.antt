@@ -1,2 +1,1 @@
 pub mod Leaving
-mod Running

@@ -1,11 +1,11 @@
 -- Any line of a script or of a replay.
-use Rattle.std.specs.Prelude.{ℕ, ◌≤◌, ◌≡◌, Bool, true, false, cond, List, ltb, length}
+use Rattle.std.specs.Prelude.{ℕ, ◌≤◌, ◌≡◌, Bool, true, false, cond, List, ltb, length, Option, Some, None}
 use Rattle.config.specs.declared.Config.{Config}
 use Rattle.call.specs.Call.{World}
 use Rattle.script.specs.Line.{line_of}
 use Rattle.answer_text.specs.Answer.{unreadable_text}
 use Rattle.replay_control.specs.declared.Control.{Control}
-use Rattle.replay_control.specs.declared.Control.TheVariants.{Fresh, Show, Other}
+use Rattle.replay_control.specs.declared.Control.TheVariants.{Fresh, Show}
 use Rattle.replay_control.specs.Control.{control_of}
 use Rattle.state_text.specs.State.{state_text}
 use Rattle.script_print.specs.Run.{world_after, text_after, is_unread}
@@ -21,10 +21,10 @@ abbrev pub called : Config → World → ℕ → List ℕ → After
 called c w n l = record { config = c; world = world_after c w (line_of l); text = text_after c w n (line_of l); unread = is_unread (line_of l) }
 
 -- A replay's line: a fresh start, the state shown, or a line as a script has it.
-abbrev pub controlled : Control → Config → World → ℕ → List ℕ → After
-controlled (Fresh d) c w n l = fresh d n
-controlled Show c w n l = state_shown c w n
-controlled Other c w n l = called c w n l
+abbrev pub controlled : Option Control → Config → World → ℕ → List ℕ → After
+controlled (Some (Fresh d)) c w n l = fresh d n
+controlled (Some Show) c w n l = state_shown c w n
+controlled None c w n l = called c w n l
 
 abbrev pub unread : Config → World → ℕ → After
 unread c w n = record { config = c; world = w; text = unreadable_text n; unread = true }

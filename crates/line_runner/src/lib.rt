@@ -28,9 +28,9 @@ fn run_line(
     ensures { Ran step upload.old response.old (line_of line.now) out.old result upload.new response.new out.new }
 {
     match script::read_line(line, scratch) {
-        Line::Request(r) => script_request::ask(step, r, upload, response, scratch, out),
-        Line::Response(r) => script_response::reply(step, r, upload, response, scratch, out),
-        Line::Unreadable => script_print::unread(step, out),
+        Some(Line::Request(r)) => script_request::ask(step, r, upload, response, scratch, out),
+        Some(Line::Response(r)) => script_response::reply(step, r, upload, response, scratch, out),
+        None => script_print::unread(step, out),
     }
 }
 
@@ -66,20 +66,15 @@ fn show<'a>(step: Step, upload: &'a [u8], response: &'a [u8], out: &mut [u8]) ->
 {
     let u = buffers::memory_of(step.state.config.upload);
     let v = buffers::memory_of(step.state.config.response);
-    let state = step.state;
     let at = state_text::put_state(
         out,
         step.at,
-        state.number,
-        state.table,
+        step.state.number,
+        step.state.table,
         &upload[0..u],
         &response[0..v],
     );
-    Step {
-        state,
-        at,
-        written: step.written,
-    }
+    Step { at, ..step }
 }
 
 // A line of a replay: a fresh start, the state shown, or a line as a script has it.
@@ -96,9 +91,9 @@ fn run_control(
     ensures { Left (controlled_in line.now) step upload.old response.old out.old result upload.new response.new out.new }
 {
     match replay_control::control_of(line) {
-        Control::Fresh(config) => fresh_start::begin(config, step, upload, response, out),
-        Control::Show => show(step, upload, response, out),
-        Control::Other => run(step, line, upload, response, scratch, out),
+        Some(Control::Fresh(config)) => fresh_start::begin(config, step, upload, response, out),
+        Some(Control::Show) => show(step, upload, response, out),
+        None => run(step, line, upload, response, scratch, out),
     }
 }
 

@@ -1,4 +1,6 @@
 -- SIXTEEN TRANSFERS CROSS, and mornings of them. Assumes nothing.
+use Rattle.refusal.specs.declared.Refusal.TheVariants.{OffLimits, ClockBack}
+use Rattle.refusal.specs.declared.Refusal.{Refusal}
 use Prim.Native.Nat.{ℕ, ◌≤◌, ◌<◌}
 use mathlib.Core.Bool.{true, false, cond, false≢true}
 use mathlib.Core.Path.{◌≡◌, refl, sym, ◌∙◌, ap, subst}
@@ -140,8 +142,8 @@ module _ (c : Config) (k : Name) (keys : List Name) (few : length keys ≤ 16) w
 
 -- ---- the calls that do not count leave no trace
 
-abbrev refused : Call → ℕ
-refused q = cond (in_form q) 2 1
+abbrev refused : Call → Refusal
+refused q = cond (in_form q) ClockBack OffLimits
 
 uncounted : (c : Config) (w : World) (q : Call) → WorldFits c w → counts w.table.clock q ≡ false → call c w q ≡ done w (Refused (refused q))
 unfolding call within_limits

@@ -1,20 +1,18 @@
 -- A CHUNK SERVED IS THE PAGE'S. Assumes nothing.
+use Rattle.std.specs.Prelude.{Option, Some, None, Ok}
 use Prim.Native.Nat.{ℕ, ◌+◌, ◌-◌, ◌*◌, ◌≤◌, ◌<◌}
 use mathlib.Core.Bool.{Bool, true, false, cond, false≢true}
 use mathlib.Core.Path.{◌≡◌, refl, sym, ap, ◌∙◌, subst}
 use mathlib.Core.List.{List, [], ◌∷◌, ◌++◌}
-use mathlib.Core.Option.{Option, none, some}
 use native.Mathlib.Omega.{arith}
 use lib.ListN.{length, set, take, drop, length-append}
 use lib.Seq.{take-take, take_at, drop_at}
+use Rattle.refusal.specs.declared.Refusal.{Refusal}
 use Rattle.pieces.specs.Memory.{patch, part as bytes_in, piece_of, put_piece}
 use Rattle.pieces.proofs.Memory.{piece-order, length-piece, length-patch, piece-put-same, piece-put-other, patch-self, take_part, drop-part}
 use Rattle.block_value.specs.declared.BlockValue.{BlockValue}
 use Rattle.negotiation.specs.Negotiation.{request_block}
-use Rattle.chunks.specs.Chunk.{chunk_of, chunk_block}
-use Rattle.negotiation.specs.declared.MaybeBlock.{MaybeBlock}
-use Rattle.negotiation.specs.declared.MaybeBlock.TheVariants.{Given}
-use Rattle.chunks.specs.declared.Chunk.TheVariants as chunk
+use Rattle.chunks.specs.Chunk.{chunk_of, chunk_block, bytes_under}
 use Rattle.config.specs.declared.Config.{Config}
 use Rattle.block_state.specs.declared.Cached.{Cached}
 use Rattle.block_state.specs.declared.BlockState.{BlockState}
@@ -60,17 +58,17 @@ stays c home away s u r g (serves t v block1 a z x y from to k l held asks is e)
 
 -- ---- a request's step that serves
 
-record ServedFrom (cached : Cached) (away : ℕ) (block2 : MaybeBlock) (b : BlockValue) (head part : Part) : Type 0 where
+record ServedFrom (cached : Cached) (away : ℕ) (block2 : Option BlockValue) (b : BlockValue) (head part : Part) : Type 0 where
   held : cached.held ≡ true
   asked : BlockValue
-  asks : block2 ≡ Given asked
+  asks : block2 ≡ Some asked
   from : ℕ
   to : ℕ
-  bytes : chunk_of asked cached.payload ≡ chunk.Bytes b from to
+  bytes : chunk_of asked cached.payload ≡ Ok (bytes_under b from to)
   its-head : head ≡ bytes_from away cached.head
   its-part : part ≡ record { from = away + cached.head + from; to = away + cached.head + to }
 
-abbrev From : BlockState → ℕ → MaybeBlock → Answer → Type 0
+abbrev From : BlockState → ℕ → Option BlockValue → Answer → Type 0
 From s away block2 (Continue b) = Unit {0}
 From s away block2 (TooLarge b) = Unit {0}
 From s away block2 (Handed b body) = Unit {0}
@@ -95,7 +93,7 @@ from-request c home away s u r g (serves t v block1 a z x y from to k l held ask
 
 record Caches (c : Config) (mem : List ℕ) (i : ℕ) (y : Cached) (p : Option Page) : Type 0 where
   page : Page
-  is : p ≡ some page
+  is : p ≡ Some page
   head : y.head ≡ length page.head
   payload : y.payload ≡ length page.payload
   bytes : take (length (page.head ++ page.payload)) (piece_of c.response i mem) ≡ page.head ++ page.payload
@@ -170,7 +168,7 @@ module _ (c : Config) (w : World) (q : Call) (k : Name) (p : Option Page) (f : W
         let full : length (patch piece 0 body) ≡ c.response = length-patch piece 0 body (omega arith) ∙ long in
         let mem : List ℕ = put_piece c.response here (patch piece 0 body) w.response in
         let put : piece_of c.response here mem ≡ patch piece 0 body = piece-put-same c.response w.response here in_memory (patch piece 0 body) full in
-        put-known c w q k f before known (Paged c mem (cond (same k q.key) (some page) p)) t b
+        put-known c w q k f before known (Paged c mem (cond (same k q.key) (Some page) p)) t b
         (λ y held.
         rw y
         (record {
@@ -195,7 +193,7 @@ module _ (c : Config) (w : World) (q : Call) (k : Name) (p : Option Page) (f : W
         rw (cond_same (same k q.key) p) (put_back _ (stays c home away e.state u r _ (outcome c home away e.state u r)))
     placed (response r) = stored-entry r _ (storing c e.state piece r)
 
-  refused-noted : (n : ℕ) → noted k p q (Refused n) ≡ p
+  refused-noted : (n : Refusal) → noted k p q (Refused n) ≡ p
   refused-noted n = as_it_was q.what
     where
       as_it_was : (x : What) → cond (same k q.key) (stored_by x (Refused n) p) p ≡ p
@@ -287,6 +285,6 @@ pub serves-the-page : ServesThePage call
 unfolding ServesThePage
 serves-the-page c w calls q r x fresh ab er e =
     let f : WorldFits c w = fresh-fits c w fresh in
-    let known : AllPaged c w q.key none = λ i i16 h held. absurd (false≢true (rw (fresh-entry w fresh.table i i16) at held)) in
-    served-page c (after call c w calls) q (last_stored call c w q.key none calls) r x (after-fits c calls w f ab)
-    (known-run c q.key calls w none f ab known) er e
+    let known : AllPaged c w q.key None = λ i i16 h held. absurd (false≢true (rw (fresh-entry w fresh.table i i16) at held)) in
+    served-page c (after call c w calls) q (last_stored call c w q.key None calls) r x (after-fits c calls w f ab)
+    (known-run c q.key calls w None f ab known) er e

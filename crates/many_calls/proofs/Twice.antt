@@ -1,4 +1,5 @@
 -- THE LAST BLOCK SENT TWICE, in both modes. Assumes nothing.
+use Rattle.std.specs.Prelude.{None, Ok}
 use Prim.Native.Nat.{ℕ, zero, suc, ◌+◌, ◌-◌, ◌*◌, ◌≤◌, ◌<◌}
 use mathlib.Core.Bool.{true, false}
 use mathlib.Core.Path.{◌≡◌, refl, sym, ◌∙◌, ap, subst}
@@ -8,16 +9,16 @@ use native.Mathlib.Nat.{zero-add}
 use native.Mathlib.Omega.{arith}
 use lib.ListN.{length, take, replicate, length-append, length-replicate, drop_of_length-le}
 use lib.Seq.{take_all}
+use Rattle.refusal.specs.declared.Refusal.{Refusal}
+use Rattle.refusal.specs.declared.Refusal.TheVariants.{Jump, NotNext}
 use Rattle.pieces.specs.Memory.{patch, piece_of}
 use Rattle.pieces.proofs.Memory.{piece-order}
 use Rattle.pieces.proofs.Tests.{clash-of}
 use Rattle.splicing.specs.Splice.{spliced, spliced_length, piece_after}
-use Rattle.splicing.specs.declared.Splice.TheVariants.{Body}
 use Rattle.splicing.proofs.Splicing as splicing
 use Rattle.block_value.specs.Value.{size_of, block_size, block_start}
 use Rattle.block_value.specs.declared.BlockValue.{BlockValue}
 use Rattle.block_value.proofs.Laws.{size-least}
-use Rattle.negotiation.specs.declared.MaybeBlock.TheVariants.{Absent}
 use Rattle.config.specs.declared.Config.{Config}
 use Rattle.block_state.specs.declared.BlockState.{BlockState}
 use Rattle.block_state.specs.declared.Answer.TheVariants.{Handed, Refused}
@@ -58,7 +59,7 @@ module _ (c : Config) (home away : ℕ) (s : BlockState) (u : List ℕ) (r : Req
   p = length r.payload
 
   -- strict, not block 0: it is not the next
-  again-strict : c.strict ≡ true → (b.num ≡ 0 → ⊥) → step_request c home away s u r ≡ left s u (Refused 9)
+  again-strict : c.strict ≡ true → (b.num ≡ 0 → ⊥) → step_request c home away s u r ≡ left s u (Refused NotNext)
   again-strict strict other =
       let astray : not_next s.assembled b ≡ true = rw none (misplaced-is (assembly 0 0) b (other, inl (λ start. other (starts_first b start)))) in
       step-astray c home away s u r b one.reply one.numbered one.agreed (form-ok c b r one) (rw (strict, astray))
@@ -67,9 +68,9 @@ module _ (c : Config) (home away : ℕ) (s : BlockState) (u : List ℕ) (r : Req
     met : length_met c.strict s.assembled b ≡ 0
     met = meets-all c.strict s.assembled b (λ strict. absurd (clash-of c.strict strict plain)) ∙ rw none
 
-    again-far : 16384 < start + block_size b → step_request c home away s u r ≡ left s u (Refused 6)
+    again-far : 16384 < start + block_size b → step_request c home away s u r ≡ left s u (Refused Jump)
     again-far far =
-        step-unspliced c home away s u r b one.reply one.numbered one.agreed (form-ok c b r one) (rw plain) 0 met 6
+        step-unspliced c home away s u r b one.reply one.numbered one.agreed (form-ok c b r one) (rw plain) 0 met Jump
         (splicing.too_far c.upload 0 start (block_size b) p (omega arith))
 
     abbrev zeros : List ℕ
@@ -83,12 +84,12 @@ module _ (c : Config) (home away : ℕ) (s : BlockState) (u : List ℕ) (r : Req
 
     again-zeros : b.more ≡ false → start + block_size b ≤ 16384 → start + p ≤ c.upload
         → step_request c home away s u r
-        ≡ left (with_recorded (with_assembled s (assembly 0 0)) Absent) (patch u 0 zeros) (Handed one.reply (bytes_from home (length zeros)))
+        ≡ left (with_recorded (with_assembled s (assembly 0 0)) None) (patch u 0 zeros) (Handed one.reply (bytes_from home (length zeros)))
     again-zeros last near fits =
         let n : spliced_length 0 start (block_size b) p ≡ length zeros =
         rw (length-append (replicate start 0) r.payload, length-replicate {A = ℕ} start 0) (omega arith) in
         step-last c home away s u r b one.reply one.numbered one.agreed (form-ok c b r one) (rw plain) 0 met (length zeros) (patch u 0 zeros)
-        (splicing.taken c.upload 0 start (block_size b) p (omega arith) (omega arith) ∙ ap Body n) with-zeros last one.alone
+        (splicing.taken c.upload 0 start (block_size b) p (omega arith) (omega arith) ∙ ap Ok n) with-zeros last one.alone
 
 -- ---- the call that brings it again
 
@@ -202,7 +203,7 @@ module _ (c : Config) (w : World) (k : Name) (x : ℕ → ℕ) (first : Sent) (r
   abbrev away : ℕ
   away = here * c.response
 
-  refuses : (n : ℕ) → step_request c home away from piece again.message ≡ left from piece (Refused n)
+  refuses : (n : Refusal) → step_request c home away from piece again.message ≡ left from piece (Refused n)
       → RefusesTo n call c then q
   refuses n step =
       let placed : Placed c then q = record { limits = fits-limits c then q fits named ok; sixteen = fits.sixteen; clock = in-time; place = in_place } in
@@ -223,11 +224,11 @@ module _ (c : Config) (w : World) (k : Name) (x : ℕ → ℕ) (first : Sent) (r
 
   -- what the entry is left with
   abbrev handed : BlockState
-  handed = with_recorded (with_assembled from (assembly 0 0)) Absent
+  handed = with_recorded (with_assembled from (assembly 0 0)) None
 
-  refused-strict : c.strict ≡ true → 1 ≤ j → RefusesTo 9 call c then q
+  refused-strict : c.strict ≡ true → 1 ≤ j → RefusesTo NotNext call c then q
   refused-strict strict h =
-      refuses 9 (again-strict c home away from piece again.message b one none strict (λ e. omega (arith, starts, first-starts b e, start-least x j h)))
+      refuses NotNext (again-strict c home away from piece again.message b one none strict (λ e. omega (arith, starts, first-starts b e, start-least x j h)))
 
   handed-one : start_of x j ≡ 0 → HandsTo again.message.payload call c then q
   handed-one first =
@@ -235,8 +236,8 @@ module _ (c : Config) (w : World) (k : Name) (x : ℕ → ℕ) (first : Sent) (r
       hands again.message.payload handed (omega (arith, body-fits))
       (own-last c home away from piece again.message b one [] meets (omega (arith, body-fits)) refl)
 
-  refused-far : c.strict ≡ false → 16384 < start_of x (length (first ∷ rest)) → RefusesTo 6 call c then q
-  refused-far plain h = refuses 6 (again-far c home away from piece again.message b one none plain (omega (arith, starts)))
+  refused-far : c.strict ≡ false → 16384 < start_of x (length (first ∷ rest)) → RefusesTo Jump call c then q
+  refused-far plain h = refuses Jump (again-far c home away from piece again.message b one none plain (omega (arith, starts)))
 
   handed-zeros : c.strict ≡ false → start_of x (length (first ∷ rest)) ≤ 16384 → HandsTo (replicate (start_of x j) 0 ++ last.message.payload) call c then q
   handed-zeros plain h =

@@ -1,4 +1,5 @@
 -- IN STRICT MODE, WHAT IS HANDED ON IS WHAT WAS TAKEN. Assumes nothing.
+use Rattle.std.specs.Prelude.{Some}
 use Prim.Native.Nat.{ℕ, ◌+◌, ◌*◌, ◌≤◌, ◌<◌}
 use mathlib.Core.Bool.{true, cond}
 use mathlib.Core.Path.{◌≡◌, refl, sym, ◌∙◌, ap, subst}
@@ -9,13 +10,13 @@ use lib.ListN.{length, take}
 use lib.Seq.{length-take-le}
 use lib.Dec.{eqb}
 use borrow.Author.Tests.{leb-true, eqb-true, eq-eqb}
+use Rattle.refusal.specs.declared.Refusal.{Refusal}
 use Rattle.pieces.specs.Memory.{piece_of, put_piece}
 use Rattle.pieces.proofs.Memory.{piece-order, length-piece, length-put, piece-put-same, piece-put-other}
 use Rattle.pieces.proofs.Tests.{ands, by_cases, clash-of}
 use Rattle.splicing.specs.Splice.{spliced_length}
 use Rattle.block_value.specs.Value.{block_size, block_start}
 use Rattle.block_value.specs.declared.BlockValue.{BlockValue}
-use Rattle.negotiation.specs.declared.MaybeBlock.TheVariants.{Given}
 use Rattle.config.specs.declared.Config.{Config}
 use Rattle.block_state.specs.declared.Assembled.{Assembled}
 use Rattle.block_state.specs.declared.BlockState.{BlockState}
@@ -74,7 +75,7 @@ module _ (c : Config) (strict : c.strict ≡ true) (home away : ℕ) (s : BlockS
       rw (met, starts, piece, size) (held_after u (bytes ++ r.payload))
 
   -- block 0 leaves its payload; any other starts at the assembled length, and leaves the old bytes and its payload
-  grown : (b reply : BlockValue) (n : ℕ) → TookBlock c home away s u r b reply n → take n (spliced-by c home away s u r b) ≡ joined_by (Given b) old r.payload
+  grown : (b reply : BlockValue) (n : ℕ) → TookBlock c home away s u r b reply n → take n (spliced-by c home away s u r b) ≡ joined_by (Some b) old r.payload
   grown b reply n k =
       by_cases (eqb b.num 0)
       (λ y.
@@ -185,7 +186,7 @@ module _ (c : Config) (strict : c.strict ≡ true) (w : World) (q : Call) (k : N
         rw (cond_same (same k q.key) old)
         (put-known c w q k f before known before (step_response c e.state d r).state b (λ y. rw same-so (opened-has b y)) (λ n j t ne has. has))
 
-  refused-taken : (n : ℕ) → taken_on c k old q (Refused n) ≡ old
+  refused-taken : (n : Refusal) → taken_on c k old q (Refused n) ≡ old
   refused-taken n = as_it_was q.what
     where
       as_it_was : (x : What) → cond (same k q.key) (taken_by c x (Refused n) old) old ≡ old

@@ -1,6 +1,7 @@
 -- SIXTEEN TRANSFERS CROSS. From a fresh table: any calls in any order, so long as those that count are over at most sixteen keys. Take a key whose requests are pushes
 -- as Falling.antt of demands has them, one after another, as many as you like, with its responses anywhere between: each push is answered Continue .., Handed with
 -- exactly its joined blocks. What the other keys' calls are does not matter; if each of the sixteen keys sends pushes, each of the sixteen is served so. In both modes.
+use Rattle.refusal.specs.declared.Refusal.TheVariants.{OffLimits, ClockBack}
 use Rattle.std.specs.Prelude.{ℕ, ◌≤◌, Bool, true, false, cond, ◌&&◌, ◌||◌, ◌≡◌, List, [], ◌∷◌, ◌++◌, map, length, take, drop, leb}
 use Rattle.config.specs.declared.Config.{Config}
 use Rattle.block_state.specs.declared.Answer.TheVariants.{Refused}
@@ -39,7 +40,7 @@ abbrev pub UncountedRefused : Handler → Config → World → ℕ → List Call
 UncountedRefused h c w t [] = Unit {0}
 UncountedRefused h c w t (q ∷ calls) =
     cond (counts t q) (UncountedRefused h c (h c w q).world q.time calls)
-    ((h c w q ≡ done w (Refused (cond (in_form q) 2 1))) × UncountedRefused h c w t calls)
+    ((h c w q ≡ done w (Refused (cond (in_form q) ClockBack OffLimits))) × UncountedRefused h c w t calls)
 
 -- ---- The run
 

@@ -2,6 +2,7 @@
 -- this one (the body's own among them), sooner than one lifetime. In strict mode a push of two blocks or more gets refusal 9 and nothing but the touch changes; one of a single block is handed
 -- on again. In plain mode, for two blocks or more, WHAT IS HANDED ON IS NOT WHAT WAS SENT: zeros in place of all blocks but the last, or refusal 6 where the
 -- blocks' sizes together are above 16,384.
+use Rattle.refusal.specs.declared.Refusal.TheVariants.{Jump, NotNext}
 use Rattle.std.specs.Prelude.{ℕ, ◌+◌, ◌≤◌, ◌<◌, true, false, ◌≡◌, List, [], ◌∷◌, ◌++◌, length, replicate}
 use Rattle.config.specs.declared.Config.{Config}
 use Rattle.keys.specs.Keys.{Name}
@@ -36,7 +37,7 @@ pub record Twice (h : Handler) : Type 0 where
   -- Strict, two blocks or more: refusal 9, nothing but the touch.
   pub strict_many : (c : Config) (w : World) (k : Name) (x : ℕ → ℕ) (first second : Sent) (rest : List Sent) (later : List Call) (again : Sent)
       → c.strict ≡ true → SentAgain c w k x first (second ∷ rest) later again
-      → RefusesTo 9 h c (after h c w (call_on k first ∷ later)) (call_on k again)
+      → RefusesTo NotNext h c (after h c w (call_on k first ∷ later)) (call_on k again)
   -- Strict, one block: handed on again, the same body.
   pub strict_one : (c : Config) (w : World) (k : Name) (x : ℕ → ℕ) (first : Sent) (later : List Call) (again : Sent)
       → c.strict ≡ true → SentAgain c w k x first [] later again
@@ -48,4 +49,4 @@ pub record Twice (h : Handler) : Type 0 where
   -- Plain, more than that: refusal 6, nothing but the touch.
   pub plain_far : (c : Config) (w : World) (k : Name) (x : ℕ → ℕ) (first : Sent) (rest : List Sent) (later : List Call) (again : Sent)
       → c.strict ≡ false → SentAgain c w k x first rest later again → 16384 < start_of x (length (first ∷ rest))
-      → RefusesTo 6 h c (after h c w (call_on k first ∷ later)) (call_on k again)
+      → RefusesTo Jump h c (after h c w (call_on k first ∷ later)) (call_on k again)

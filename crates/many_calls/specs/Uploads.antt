@@ -2,11 +2,9 @@
 -- Handed, the body that is shown is the payloads of the blocks that were taken for that key from the last block 0 that was taken on, one after another, this one's last.
 -- Nothing else can be in it: no byte of another key, of an earlier body, or of nobody. (Two pushes on one key cannot be told apart but by a block 0: where the second's is
 -- lost, a block of it that starts where the first's end, and is no larger, may follow those.)
-use Rattle.std.specs.Prelude.{ℕ, true, cond, ◌≡◌, List, [], ◌∷◌, ◌++◌, eqb}
+use Rattle.std.specs.Prelude.{ℕ, true, cond, ◌≡◌, List, [], ◌∷◌, ◌++◌, eqb, Option, Some, None}
 use Rattle.block_value.specs.declared.BlockValue.{BlockValue}
 use Rattle.negotiation.specs.Negotiation.{request_block}
-use Rattle.negotiation.specs.declared.MaybeBlock.{MaybeBlock}
-use Rattle.negotiation.specs.declared.MaybeBlock.TheVariants.{Absent, Given}
 use Rattle.config.specs.declared.Config.{Config}
 use Rattle.block_state.specs.declared.Part.{Part}
 use Rattle.block_state.specs.declared.Answer.{Answer}
@@ -19,9 +17,9 @@ use Rattle.one_call.specs.Strict.{took_block}
 use Rattle.demands.specs.Demand3.{seen, after, AllBytes, Fresh}
 
 -- A block 0 that was taken starts afresh; any other goes behind what was taken before it.
-abbrev pub joined_by : MaybeBlock → List ℕ → List ℕ → List ℕ
-joined_by Absent old payload = old
-joined_by (Given b) old payload = cond (eqb b.num 0) payload (old ++ payload)
+abbrev pub joined_by : Option BlockValue → List ℕ → List ℕ → List ℕ
+joined_by None old payload = old
+joined_by (Some b) old payload = cond (eqb b.num 0) payload (old ++ payload)
 
 -- A request whose answer took a block adds to what was taken; nothing else does.
 abbrev pub taken_by : Config → What → Answer → List ℕ → List ℕ

@@ -8,8 +8,8 @@ use lib.Seq.{drop-drop, length-take-le, take_at, drop_at, take_all}
 use Rattle.pieces.specs.Memory.{within}
 use Rattle.pieces.proofs.Memory.{within-there}
 use Rattle.message_format.specs.Format.{CoapOption, Message, Bytes, options_bytes, payload_bytes, head_bytes, bytes_of, next_in, options, on_next, options_in, options_of, means, meaning_of}
-use Rattle.message_format.specs.declared.Next.{Next}
-use Rattle.message_format.specs.declared.Next.TheVariants.{Option, End, Malformed}
+use Rattle.message_format.specs.Format.{Next}
+use Rattle.std.specs.Prelude.{Some, None, Ok, Err}
 use Rattle.message_format.proofs.Laws.{next-bounds, options-left, no-options, with-tells}
 use Rattle.message_format.proofs.Meanings.{head-tells, meaning-tells}
 use Rattle.message_format.proofs.WriteBack.{write-back}
@@ -29,16 +29,16 @@ left-last (suc most) before bytes list left e = go (next_in before bytes) refl (
   where
     go : (n : Next) → next_in before bytes ≡ n → ((number : ℕ) (rest : List ℕ) (l : List CoapOption) → options_in most number rest ≡ options l left → left ≡ drop (length rest - length left) rest)
         → on_next bytes (λ number rest. options_in most number rest) n ≡ options list left → left ≡ drop (length bytes - length left) bytes
-    go (Option number from to) p more e =
-        let b = next-bounds before bytes number from to p in
-        let w = with-tells number (take (to - from) (drop from bytes)) (options_in most number (drop to bytes)) list left e in
-        let s = options-left most number (drop to bytes) w.0 left w.1 in
-        let l = length-drop to bytes in
-        end_of (length bytes) (length left) bytes left refl refl (to + (length (drop to bytes) - length left))
-        (more number (drop to bytes) w.0 w.1 ∙ drop-drop (length (drop to bytes) - length left) to bytes)
+    go (Ok (Some o)) p more e =
+        let b = next-bounds before bytes o.number o.from o.to p in
+        let w = with-tells o.number (take (o.to - o.from) (drop o.from bytes)) (options_in most o.number (drop o.to bytes)) list left e in
+        let s = options-left most o.number (drop o.to bytes) w.0 left w.1 in
+        let l = length-drop o.to bytes in
+        end_of (length bytes) (length left) bytes left refl refl (o.to + (length (drop o.to bytes) - length left))
+        (more o.number (drop o.to bytes) w.0 w.1 ∙ drop-drop (length (drop o.to bytes) - length left) o.to bytes)
         (omega (arith, b.there, s.short))
-    go End p more e = let same : left ≡ bytes = cc in end_of (length bytes) (length left) bytes left refl refl 0 same (omega (arith, ap length same))
-    go Malformed p more e = absurd (no-options e)
+    go (Ok None) p more e = let same : left ≡ bytes = cc in end_of (length bytes) (length left) bytes left refl refl 0 same (omega (arith, ap length same))
+    go (Err _) p more e = absurd (no-options e)
 
 -- ---- the parts
 

@@ -1,10 +1,9 @@
 -- What the reader gives of a message: where its parts stand. Nothing is copied.
-use Rattle.std.specs.Prelude.{ℕ, ◌+◌, ◌-◌, ◌*◌, ◌/◌, ◌%◌, List, [], length, get_or}
+use Rattle.std.specs.Prelude.{ℕ, ◌+◌, ◌-◌, ◌*◌, ◌/◌, ◌%◌, List, [], length, get_or, Result, Ok, Err}
 use Rattle.message_format.specs.Format.{Message, Meaning, malformed, means, payload_bytes, meaning_of}
 use Rattle.option_reader.specs.Reader.{between}
+use Rattle.message_format.specs.declared.Malformed.{Malformed}
 use Rattle.message.specs.declared.Packet.{Packet}
-use Rattle.message.specs.declared.Reading.{Reading}
-use Rattle.message.specs.declared.Reading.TheVariants as reading-variants
 
 -- The parts of a message of n bytes: the token after the four bytes of the head, then the options, and the payload at the end.
 abbrev pub packet_of : ℕ → Message → Packet
@@ -29,12 +28,12 @@ packet_with bytes first left = record {
 }
 
 -- "11, malformed message or an option number above 65,535 .. returns no part of it."
-abbrev pub reading_of : ℕ → Meaning → Reading
-reading_of n malformed = reading-variants.Refused 11
-reading_of n (means m) = reading-variants.Message (packet_of n m)
+abbrev pub reading_of : ℕ → Meaning → Result Packet Malformed
+reading_of n malformed = Err (record {})
+reading_of n (means m) = Ok (packet_of n m)
 
 -- Every message is refused, or shown as what it means.
-abbrev pub read_of : List ℕ → Reading
+abbrev pub read_of : List ℕ → Result Packet Malformed
 read_of bytes = reading_of (length bytes) (meaning_of bytes)
 
 -- The message with its payload taken out.

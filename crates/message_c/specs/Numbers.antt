@@ -1,18 +1,13 @@
 -- What the reader, the writer and the table answer, in numbers, as it crosses to C.
-use Rattle.std.specs.Prelude.{ℕ, List, ◌≡◌, length}
+use Rattle.std.specs.Prelude.{ℕ, List, ◌≡◌, length, Option, Some, None, Result, Ok, Err}
 use Rattle.option_reader.specs.declared.Part.{Part}
 use Rattle.message.specs.declared.Packet.{Packet}
-use Rattle.message.specs.declared.Reading.{Reading}
-use Rattle.message.specs.declared.Reading.TheVariants as reading-variants
-use Rattle.message_format.specs.declared.Next.{Next}
-use Rattle.message_format.specs.declared.Next.TheVariants.{Option, End, Malformed}
-use Rattle.option_reader.specs.declared.Found.{Found}
-use Rattle.option_reader.specs.declared.Found.TheVariants.{At, Absent}
+use Rattle.message_format.specs.declared.Malformed.{Malformed}
+use Rattle.message_format.specs.Format.{Next, malformed_number}
+use Rattle.message_writer.specs.declared.NotWritten.{NotWritten}
 use Rattle.option_reader.specs.Reader.{between}
-use Rattle.message_writer.specs.declared.Writing.{Writing}
-use Rattle.message_writer.specs.declared.Writing.TheVariants.{Written, Refused}
 use Rattle.message_measure.specs.Given.{Given}
-use Rattle.message_writer.specs.Writer.{writing_of, output_of}
+use Rattle.message_writer.specs.Writer.{writing_of, output_of, refusal_number}
 use Rattle.option_table.specs.declared.Length.{Length}
 use Rattle.option_table.specs.declared.Length.TheVariants.{Unknown, Allowed, NotAllowed}
 use Rattle.message_c.specs.declared.ReadMessage.{ReadMessage}
@@ -48,9 +43,10 @@ refused_read n = record {
   payload = nowhere;
 }
 
-abbrev pub message_read : Reading → ReadMessage
-message_read (reading-variants.Message p) = packet_read p
-message_read (reading-variants.Refused n) = refused_read n
+-- "11, malformed message."
+abbrev pub message_read : Result Packet Malformed → ReadMessage
+message_read (Ok p) = packet_read p
+message_read (Err malformed) = refused_read (malformed_number malformed)
 
 -- An option and where its value stands; no option; and what is none and no end either.
 abbrev pub option : ℕ → ℕ → ℕ → OptionAt
@@ -63,17 +59,18 @@ abbrev pub malformed_option : OptionAt
 malformed_option = record { kind = 2; number = 0; value = nowhere }
 
 abbrev pub option_next : Next → OptionAt
-option_next (Option number from to) = option number from to
-option_next End = no_option
-option_next Malformed = malformed_option
+option_next (Ok (Some o)) = option o.number o.from o.to
+option_next (Ok None) = no_option
+option_next (Err _) = malformed_option
 
-abbrev pub option_found : ℕ → Found → OptionAt
-option_found number (At part) = option number part.from part.to
-option_found number Absent = no_option
+abbrev pub option_found : ℕ → Option Part → OptionAt
+option_found number (Some part) = option number part.from part.to
+option_found number None = no_option
 
-abbrev pub message_written : Writing → WrittenMessage
-message_written (Written n) = record { refusal = 0; len = n }
-message_written (Refused n) = record { refusal = n; len = 0 }
+-- 21: no encoding, or an output too small.
+abbrev pub message_written : Result ℕ NotWritten → WrittenMessage
+message_written (Ok n) = record { refusal = 0; len = n }
+message_written (Err not_written) = record { refusal = refusal_number not_written; len = 0 }
 
 -- The writer's answer in numbers, and every byte of the output.
 pub record WritesNumbers (out : List ℕ) (g : Given) (out' : List ℕ) (r : WrittenMessage) : Type 0 where

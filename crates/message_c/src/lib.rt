@@ -9,8 +9,7 @@ ghost use Rattle.message_measure.specs.Given.{given};
 ghost use Rattle.option_table.specs.Options.{allowed_of};
 ghost use Rattle.message_c.specs.Numbers.{option, no_option, malformed_option, packet_read, refused_read, message_read, option_next, option_found, WritesNumbers, length_number};
 
-use message::{Found, Next, Packet, Part, Reading};
-use message_writer::Writing;
+use message::{Packet, Part};
 use option_table::Length;
 
 // A message that was read: where its parts stand in it. Refused, all else is 0.
@@ -36,7 +35,7 @@ pub struct ReadMessage {
 #[repr(C)]
 #[derive(Clone, Copy)]
 pub struct OptionAt {
-    // 0 none, 1 an option, 2 malformed.
+    // 0 none, 1 an option, 2 malformed: a number, as C sees it.
     pub kind: u8,
     pub number: u16,
     pub value: Part,
@@ -91,8 +90,8 @@ pub extern "C" fn block_handler_message_read(message: &[u8]) -> ReadMessage
     ensures { result ≡ message_read (read_of message.now) }
 {
     match message::from_bytes(message) {
-        Reading::Message(packet) => read(packet),
-        Reading::Refused(n) => refused(n),
+        Ok(packet) => read(packet),
+        Err(malformed) => refused(u8::from(malformed)),
     }
 }
 
@@ -133,9 +132,9 @@ pub extern "C" fn block_handler_next_option(message: &[u8], at: usize, before: u
     ensures { result ≡ option_next (next_at message.now at before) }
 {
     match message::next_option(message, at, before) {
-        Next::Option { number, from, to } => option_at(number, from, to),
-        Next::End => no_option(),
-        Next::Malformed => malformed_option(),
+        Ok(Some(option)) => option_at(option.number, option.from, option.to),
+        Ok(None) => no_option(),
+        Err(_) => malformed_option(),
     }
 }
 
@@ -150,8 +149,8 @@ pub extern "C" fn block_handler_nth_option(
     ensures { result ≡ option_found number (found_from message.now options 0 number n) }
 {
     match message::nth_option(message, options, number, n) {
-        Found::At(value) => option_at(number, value.from, value.to),
-        Found::Absent => no_option(),
+        Some(value) => option_at(number, value.from, value.to),
+        None => no_option(),
     }
 }
 
@@ -183,8 +182,11 @@ pub extern "C" fn block_handler_message_write<'a>(
         values,
         payload,
     ) {
-        Writing::Written(len) => WrittenMessage { refusal: 0, len },
-        Writing::Refused(n) => WrittenMessage { refusal: n, len: 0 },
+        Ok(len) => WrittenMessage { refusal: 0, len },
+        Err(not_written) => WrittenMessage {
+            refusal: u8::from(not_written),
+            len: 0,
+        },
     }
 }
 

@@ -1,14 +1,12 @@
 // A message that brings a price list: its path and its payload, shown where they stand.
 #![tactic(auto)]
 
-use message::{Found, Reading};
-
 fn main() {
     let datagram = b"\x40\x03\x00\x01\xb6prices\xd1\x03\x00\xffmilk 1.19\n"; // CON 0.03, Uri-Path, Block1
-    let Reading::Message(packet) = message::from_bytes(datagram) else {
+    let Ok(packet) = message::from_bytes(datagram) else {
         return; // refusal 11
     };
-    let Found::At(path) = message::nth_option(datagram, packet.options.from, 11, 0) else {
+    let Some(path) = message::nth_option(datagram, packet.options.from, 11, 0) else {
         return;
     };
     let payload = packet.payload;

@@ -2,31 +2,19 @@
 use mathlib.Core.Path.{◌≡◌, refl, sym, ap, ◌∙◌}
 use mathlib.Core.Bool.{Bool, true, false, cond, ◌&&◌}
 use mathlib.Core.List.{List, [], ◌∷◌}
-use Prim.Native.Nat.{ℕ, ◌+◌, ◌-◌, ◌*◌, ◌/◌, ◌%◌, ◌≤◌, ◌<◌}
+use Prim.Native.Nat.{ℕ, ◌+◌, ◌-◌, ◌*◌, ◌/◌, ◌%◌, ◌≤◌}
 use native.Mathlib.Omega.{arith}
 use lib.Dec.{leb, eqb}
 use lib.ListN.{length, take, drop, get_or}
-use borrow.Author.Tests.{le-leb, lt-leb, eq-eqb, ne_eqb, leb-true, eqb-true}
+use borrow.Author.Tests.{le-leb, eq-eqb, ne_eqb, leb-true, eqb-true}
 use Rattle.pieces.proofs.Tests.{both}
 use Rattle.message_format.specs.Format.{Message, Options, broken, options, options_of, malformed, means, head_ok, meaning_with, meaning_of}
 
 -- ---- the first byte and the code
 
 module _ (first code n : ℕ) where
-  pub head-version : (first / 64 ≡ 1 → ⊥) → false ≡ head_ok first code n
-  unfolding head_ok
-  head-version v = rw (ne_eqb (first / 64) 1 v)
-
   module _ (v : first / 64 ≡ 1) where
-    pub head-token : 8 < first % 16 → false ≡ head_ok first code n
-    unfolding head_ok
-    head-token t = rw (eq-eqb (first / 64) 1 v, lt-leb (first % 16) 8 t)
-
     module _ (t : first % 16 ≤ 8) where
-      pub head-cut : n < first % 16 → false ≡ head_ok first code n
-      unfolding head_ok
-      head-cut p = rw (eq-eqb (first / 64) 1 v, le-leb (first % 16) 8 t, lt-leb (first % 16) n p)
-
       pub head-full : first % 16 ≤ n → (code ≡ 0 → ⊥) → true ≡ head_ok first code n
       unfolding head_ok
       head-full p z = rw (eq-eqb (first / 64) 1 v, le-leb (first % 16) 8 t, le-leb (first % 16) n p, ne_eqb code 0 z)

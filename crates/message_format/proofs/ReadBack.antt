@@ -11,7 +11,7 @@ use borrow.Author.Tests.{ltb-true, ltb-false, leb-true, eqb-true, eqb-false, eq-
 use Rattle.pieces.proofs.Tests.{both}
 use Rattle.message_format.specs.Format.{CoapOption, Message, nibble_of, extension, option_head, option_bytes, options_bytes, payload_bytes, head_bytes, bytes_of, options_ok, empty_ok, encodable}
 use Rattle.message_format.specs.Format.{extras, extended, value_from, value_to, marked, option_in, next_in, options, with_option, options_of, head_ok, meaning_with, meaning_of, malformed, means}
-use Rattle.message_format.specs.declared.Next.TheVariants.{Option, End}
+use Rattle.message_format.specs.Format.{an_option, no_more}
 use Rattle.message_format.proofs.Laws.{option_is, next-option, options-more, options-end}
 use Rattle.message_format.proofs.Meanings.{head-full, head-empty}
 
@@ -74,7 +74,7 @@ module _ (before : ℕ) (o : CoapOption) (more : List ℕ) (rises : before ≤ o
   whole_length = simp length-append (omega arith)
 
   -- the option is next, and its value is where it was put
-  next-is : next_in before (option_bytes before o ++ more) ≡ Option o.number (length (option_head delta len)) (length (option_head delta len) + len)
+  next-is : next_in before (option_bytes before o ++ more) ≡ an_option o.number (length (option_head delta len)) (length (option_head delta len) + len)
   unfolding delta
   next-is =
       let b : ℕ = nibble_of delta * 16 + nibble_of len in
@@ -89,7 +89,7 @@ module _ (before : ℕ) (o : CoapOption) (more : List ℕ) (rises : before ≤ o
       ∙ ap (λ (n : ℕ). option_in before n (b % 16) tail) high
       ∙ ap (λ (n : ℕ). option_in before (nibble_of delta) n tail) low
       ∙ sym (option_is before (nibble_of delta) (nibble_of len) tail d l (omega (arith, to, whole_length)) (omega (arith, number)))
-      ∙ (λ i. Option (number i) (head-length i) (to i))
+      ∙ (λ i. an_option (number i) (head-length i) (to i))
 
   -- cut out of the bytes, it and the rest are what they were
   pub option_back : options_of before (option_bytes before o ++ more) ≡ with_option o.number o.value (options_of o.number more)
@@ -120,7 +120,7 @@ ok-tells before o more e =
     let two = both (leb before o.number) (leb o.number 65535) third.0 in
     record { rises = leb-true before o.number two.0; small = leb-true o.number 65535 two.1; short = leb-true (length o.value) 65804 third.1; rest = last.1 }
 
-payload-next : (before : ℕ) (payload : List ℕ) → next_in before (payload_bytes payload) ≡ End
+payload-next : (before : ℕ) (payload : List ℕ) → next_in before (payload_bytes payload) ≡ no_more
 unfolding payload_bytes next_in marked
 payload-next before [] = refl
 payload-next before (b ∷ payload) = refl

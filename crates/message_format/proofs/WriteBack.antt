@@ -8,10 +8,11 @@ use lib.Dec.{eqb}
 use lib.ListN.{length, take, drop, length-append, length-drop, take-append-drop}
 use lib.Seq.{drop-drop, get_or-drop, length-take-le}
 use borrow.Author.Tests.{lt-ltb, le-ltb, le-leb, eqb-true, eqb-false, eq-eqb}
-use Rattle.message_format.specs.Format.{CoapOption, Message, Bytes, nibble_of, extension, option_head, option_bytes, options_bytes, payload_bytes, head_bytes, bytes_of, options_ok, empty_ok, encodable}
+use Rattle.message_format.specs.Format.{CoapOption, Message, Bytes, nibble_of, extension, option_head, option_bytes, options_bytes, payload_bytes, head_bytes, bytes_of}
+use Rattle.message_format.specs.Format.{options_ok, empty_ok, encodable}
 use Rattle.message_format.specs.Format.{extras, extended, next_in, options, on_next, options_in, meaning_of, means}
-use Rattle.message_format.specs.declared.Next.{Next}
-use Rattle.message_format.specs.declared.Next.TheVariants.{Option, End, Malformed}
+use Rattle.message_format.specs.Format.{Next, an_option}
+use Rattle.std.specs.Prelude.{Some, None, Ok, Err}
 use Rattle.message_format.proofs.Laws.{IsOption, next-tells, end-no-option, no-options, with-tells, options-left}
 use Rattle.message_format.proofs.Meanings.{Headed, head-tells, Meant, meaning-tells}
 
@@ -59,7 +60,7 @@ extended-back nibble rest h = go (eqb nibble 13) (eqb nibble 14) refl refl rest
 
 -- ---- one option
 
-module _ (before b : ℕ) (rest : List ℕ) (number from to : ℕ) (next : next_in before (b ∷ rest) ≡ Option number from to) (bytes : Bytes (b ∷ rest)) where
+module _ (before b : ℕ) (rest : List ℕ) (number from to : ℕ) (next : next_in before (b ∷ rest) ≡ an_option number from to) (bytes : Bytes (b ∷ rest)) where
   is : IsOption before (b / 16) (b % 16) rest number from to
   is = next-tells before b rest number from to next
 
@@ -141,7 +142,7 @@ pub record Listed (before : ℕ) (bytes : List ℕ) (list : List CoapOption) (le
   pub same : options_bytes before list ++ left ≡ bytes
   pub ok : options_ok before list ≡ true
 
-listed_more : (before : ℕ) (bytes : List ℕ) (number from to : ℕ) → next_in before bytes ≡ Option number from to → Bytes bytes → (list : List CoapOption) (left : List ℕ)
+listed_more : (before : ℕ) (bytes : List ℕ) (number from to : ℕ) → next_in before bytes ≡ an_option number from to → Bytes bytes → (list : List CoapOption) (left : List ℕ)
     → Listed number (drop to bytes) list left → Listed before bytes (record { number = number; value = take (to - from) (drop from bytes) } ∷ list) left
 unfolding options_bytes options_ok next_in
 listed_more before [] number from to e bytes list left more = absurd (end-no-option e)
@@ -160,14 +161,14 @@ options-same (suc most) before bytes list left e b = go (next_in before bytes) r
   where
     go : (n : Next) → next_in before bytes ≡ n → ((number : ℕ) (rest : List ℕ) (l : List CoapOption) → options_in most number rest ≡ options l left → Bytes rest → Listed number rest l left)
         → on_next bytes (λ number rest. options_in most number rest) n ≡ options list left → Listed before bytes list left
-    go (Option number from to) p more e =
-        let w = with-tells number (take (to - from) (drop from bytes)) (options_in most number (drop to bytes)) list left e in
-        rw w.2 (listed_more before bytes number from to p b w.0 left (more number (drop to bytes) w.0 w.1 (bytes_drop to bytes b)))
-    go End p more e =
+    go (Ok (Some o)) p more e =
+        let w = with-tells o.number (take (o.to - o.from) (drop o.from bytes)) (options_in most o.number (drop o.to bytes)) list left e in
+        rw w.2 (listed_more before bytes o.number o.from o.to p b w.0 left (more o.number (drop o.to bytes) w.0 w.1 (bytes_drop o.to bytes b)))
+    go (Ok None) p more e =
         let none : list ≡ [] = cc in
         let all : bytes ≡ left = cc in
         rw none (record { same = sym all; ok = refl })
-    go Malformed p more e = absurd (no-options e)
+    go (Err _) p more e = absurd (no-options e)
 
 -- ---- the message
 

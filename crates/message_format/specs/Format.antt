@@ -1,7 +1,8 @@
 -- RFC 7252's message on lists of bytes, apart from any code: the bytes of a message, and what bytes mean.
 use Rattle.std.specs.Prelude.{ℕ, zero, suc, ◌+◌, ◌-◌, ◌*◌, ◌/◌, ◌%◌, ◌<◌, Bool, true, cond, ◌&&◌, List, [], ◌∷◌, ◌++◌, leb, ltb, eqb, length, take, drop, get_or}
-use Rattle.message_format.specs.declared.Next.{Next}
-use Rattle.message_format.specs.declared.Next.TheVariants.{Option, End, Malformed}
+use Rattle.std.specs.Prelude.{Option, Some, None, Result, Ok, Err}
+use Rattle.message_format.specs.declared.OptionPlace.{OptionPlace}
+use Rattle.message_format.specs.declared.Malformed.{Malformed}
 
 pub record CoapOption : Type 0 where
   pub number : ℕ
@@ -88,24 +89,44 @@ value_from delta_nibble len_nibble = 1 + extras delta_nibble + extras len_nibble
 abbrev pub value_to : ℕ → ℕ → List ℕ → ℕ
 value_to delta_nibble len_nibble rest = value_from delta_nibble len_nibble + extended len_nibble (drop (extras delta_nibble) rest)
 
+-- What stands where an option may begin: an option and where its value stands, the end of the options, or neither.
+abbrev pub Next : Type 0
+Next = Result (Option OptionPlace) Malformed
+
+abbrev pub placed : ℕ → ℕ → ℕ → OptionPlace
+placed number from to = record { number = number; from = from; to = to }
+
+abbrev pub an_option : ℕ → ℕ → ℕ → Next
+an_option number from to = Ok (Some (placed number from to))
+
+abbrev pub no_more : Next
+no_more = Ok None
+
+abbrev pub no_form : Next
+no_form = Err (record {})
+
+-- Document 02's number of it: "11, malformed message or an option number above 65,535".
+abbrev pub malformed_number : Malformed → ℕ
+malformed_number _ = 11
+
 -- "15 is reserved: as the byte 0xFF it is the payload marker, else a format error." So is an option or an extension past the end, or a number above
 -- 65,535.
 unfoldable pub option_in : ℕ → ℕ → ℕ → List ℕ → Next
 option_in before delta_nibble len_nibble rest =
-    cond (ltb 14 delta_nibble) Malformed
-    (cond (ltb 14 len_nibble) Malformed
-    (cond (ltb (1 + length rest) (value_to delta_nibble len_nibble rest)) Malformed
-    (cond (ltb 65535 (before + extended delta_nibble rest)) Malformed
-    (Option (before + extended delta_nibble rest) (value_from delta_nibble len_nibble) (value_to delta_nibble len_nibble rest)))))
+    cond (ltb 14 delta_nibble) no_form
+    (cond (ltb 14 len_nibble) no_form
+    (cond (ltb (1 + length rest) (value_to delta_nibble len_nibble rest)) no_form
+    (cond (ltb 65535 (before + extended delta_nibble rest)) no_form
+    (an_option (before + extended delta_nibble rest) (value_from delta_nibble len_nibble) (value_to delta_nibble len_nibble rest)))))
 
 -- "A payload marker with no byte after it is a format error."
 unfoldable pub marked : List ℕ → Next
-marked [] = Malformed
-marked (b ∷ payload) = End
+marked [] = no_form
+marked (b ∷ payload) = no_more
 
 -- What stands where an option may begin: an option, after one of the number `before`, the end of the options, or neither.
 unfoldable pub next_in : ℕ → List ℕ → Next
-next_in before [] = End
+next_in before [] = no_more
 next_in before (b ∷ rest) = cond (eqb b 255) (marked rest) (option_in before (b / 16) (b % 16) rest)
 
 -- All options, and the bytes that are left where they end: none, or the payload with its marker.
@@ -118,9 +139,9 @@ with_option number value broken = broken
 with_option number value (options list left) = options (record { number = number; value = value } ∷ list) left
 
 abbrev pub on_next : List ℕ → (ℕ → List ℕ → Options) → Next → Options
-on_next bytes more (Option number from to) = with_option number (take (to - from) (drop from bytes)) (more number (drop to bytes))
-on_next bytes more End = options [] bytes
-on_next bytes more Malformed = broken
+on_next bytes more (Ok (Some o)) = with_option o.number (take (o.to - o.from) (drop o.from bytes)) (more o.number (drop o.to bytes))
+on_next bytes more (Ok None) = options [] bytes
+on_next bytes more (Err _) = broken
 
 -- "Options are taken one by one until the payload marker or the end": fewer than the first number says.
 unfoldable pub options_in : ℕ → ℕ → List ℕ → Options

@@ -12,8 +12,7 @@ use borrow.Author.Tests.{leb-true, eqb-true, le-leb, eq-eqb}
 use Rattle.message_format.specs.Format.{options_bytes, options_ok}
 use Rattle.message_measure.specs.Given.{options_from, total, describes}
 use Rattle.message_measure.specs.Rooms.{option_length, option_fits, room_after_option, options_fit, room_after}
-use Rattle.message_measure.specs.declared.Room.{Room}
-use Rattle.message_measure.specs.declared.Room.TheVariants.{Left, Small}
+use Rattle.std.specs.Prelude.{Option, Some, None}
 use Rattle.pieces.proofs.Tests.{and_left, and_right, refute, same_test}
 
 -- ---- one option
@@ -50,18 +49,12 @@ module _ (room before number len values : ℕ) where
         small = leb-true (option_length (number - before) len) room (and_right (a && b && c && d) e t);
       }
 
-  pub option-left : Fits room before number len values → room_after_option room before number len values ≡ Left (room - option_length (number - before) len)
-  option-left f = rw (option-fits f)
-
-  pub option-small : (Fits room before number len values → ⊥) → room_after_option room before number len values ≡ Small
-  option-small h = rw (refute (option_fits room before number len values) (λ t. h (fits-option t)))
-
 -- what an answer says of the test behind it
-pub left-test : (b : Bool) (x m : ℕ) → cond b (Left x) Small ≡ Left m → (b ≡ true) × (x ≡ m)
+pub left-test : (b : Bool) (x m : ℕ) → cond b (Some x) None ≡ Some m → (b ≡ true) × (x ≡ m)
 left-test true x m e = (refl, cc)
 left-test false x m e = let z : ◌≡◌ {A = ℕ} 0 1 = cc in absurd (omega arith)
 
-pub small-test : (b : Bool) (x : ℕ) → cond b (Left x) Small ≡ Small → b ≡ true → ⊥
+pub small-test : (b : Bool) (x : ℕ) → cond b (Some x) None ≡ None → b ≡ true → ⊥
 small-test true x e t = let z : ◌≡◌ {A = ℕ} 0 1 = cc in omega arith
 small-test false x e t = let z : ◌≡◌ {A = Bool} false true = t in absurd (false≢true z)
 
@@ -101,7 +94,7 @@ module _ (numbers lengths values : List ℕ) where
         let d = described (and_left a b ab) in
         record { counts = d.0; sum = d.1; ok = and_right a b ab; small = leb-true n room (and_right (a && b) (leb n room) t) }
 
-    pub all_small : (AllFit before room numbers lengths values → ⊥) → room_after before room numbers lengths values ≡ Small
+    pub all_small : (AllFit before room numbers lengths values → ⊥) → room_after before room numbers lengths values ≡ None
     all_small h = rw (refute (options_fit before room numbers lengths values) (λ t. h (fit_all t)))
 
 -- the first option, and the others in what it leaves
@@ -165,23 +158,23 @@ module _ (before room number n : ℕ) (numbers lengths values : List ℕ) where
         (λ b. all_fit (number ∷ numbers) (n ∷ lengths) values before room (fits-rest (fit_all numbers lengths (drop n values) number left b))) in
         let e : room - length (options_bytes before (options_from (number ∷ numbers) (n ∷ lengths) values)) ≡ left - length (options_bytes number (options_from numbers lengths (drop n values))) =
         omega (arith, bytes-first f.there) in
-        λ i. cond (t i) (Left (e i)) Small
+        λ i. cond (t i) (Some (e i)) None
 
-  pub room_small : room_after_option room before number n (length values) ≡ Small → room_after before room (number ∷ numbers) (n ∷ lengths) values ≡ Small
+  pub room_small : room_after_option room before number n (length values) ≡ None → room_after before room (number ∷ numbers) (n ∷ lengths) values ≡ None
   room_small e =
       all_small (number ∷ numbers) (n ∷ lengths) values before room
       (λ a. small-test (option_fits room before number n (length values)) (room - option_length (number - before) n) e (option-fits room before number n (length values) (first_fits a)))
 
-  pub room-left : (m : ℕ) → room_after_option room before number n (length values) ≡ Left m
+  pub room-left : (m : ℕ) → room_after_option room before number n (length values) ≡ Some m
       → room_after before room (number ∷ numbers) (n ∷ lengths) values ≡ room_after number m numbers lengths (drop n values)
   room-left m e =
       let t = left-test (option_fits room before number n (length values)) (room - option_length (number - before) n) m e in
       room-first (fits-option room before number n (length values) t.0) ∙ ap (λ (k : ℕ). room_after number k numbers lengths (drop n values)) t.1
 
-pub room-end : (before room : ℕ) (values : List ℕ) → length values ≡ 0 → room_after before room [] [] values ≡ Left room
+pub room-end : (before room : ℕ) (values : List ℕ) → length values ≡ 0 → room_after before room [] [] values ≡ Some room
 unfolding options_from options_bytes options_ok total
 room-end before room values h =
-    rw (all_fit [] [] values before room (record { counts = refl; sum = sym h; ok = refl; small = omega arith })) (ap Left (omega arith))
+    rw (all_fit [] [] values before room (record { counts = refl; sum = sym h; ok = refl; small = omega arith })) (ap Some (omega arith))
 
 -- the element at an index is the first of those from there on
 pub drop-next : (l : List ℕ) (i x : ℕ) → i < length l → x ≡ get_or l i 0 → drop i l ≡ x ∷ drop (i + 1) l
@@ -199,7 +192,7 @@ module _ (room : ℕ) (numbers lengths values : List ℕ) where
   pub measured-start : length numbers ≡ length lengths → Measured room numbers lengths values room 0 0 0
   measured-start h = record { counts = h; within = omega arith; reach = omega arith; same = refl }
 
-  pub uncounted : (length numbers ≡ length lengths → ⊥) → Small ≡ room_after 0 room numbers lengths values
+  pub uncounted : (length numbers ≡ length lengths → ⊥) → None ≡ room_after 0 room numbers lengths values
   uncounted h = sym (all_small numbers lengths values 0 room (λ a. h a.counts))
 
 module _ {room : ℕ} {numbers lengths values : List ℕ} {left before at i : ℕ} (m : Measured room numbers lengths values left before at i) where
@@ -210,11 +203,11 @@ module _ {room : ℕ} {numbers lengths values : List ℕ} {left before at i : �
         let f = drop-next lengths i len (omega (arith, m.counts)) q in
         (λ j. room_after before left (sym e j) (sym f j) (drop at values)) ∙ m.same
 
-    pub measured-small : {r : Room} → r ≡ room_after_option left before number len (length values - at) → r ≡ Small → Small ≡ room_after 0 room numbers lengths values
+    pub measured-small : {r : Option ℕ} → r ≡ room_after_option left before number len (length values - at) → r ≡ None → None ≡ room_after 0 room numbers lengths values
     measured-small is e =
         sym (room_small before left number len (drop (i + 1) numbers) (drop (i + 1) lengths) (drop at values) (rw length-drop (sym is ∙ e))) ∙ next
 
-    pub measured-next : {r : Room} → r ≡ room_after_option left before number len (length values - at) → (after : ℕ) → r ≡ Left after
+    pub measured-next : {r : Option ℕ} → r ≡ room_after_option left before number len (length values - at) → (after : ℕ) → r ≡ Some after
         → Measured room numbers lengths values after number (at + len) (i + 1)
     measured-next is after e' =
         let e = sym is ∙ e' in
@@ -236,9 +229,9 @@ module _ {room : ℕ} {numbers lengths values : List ℕ} {left before at i : �
         let f : drop i lengths ≡ [] = drop_of_length-le lengths {i = i} (omega (arith, m.counts)) in
         (λ j. room_after before left (sym e j) (sym f j) (drop at values)) ∙ m.same
 
-    pub measured-over : at < length values → Small ≡ room_after 0 room numbers lengths values
+    pub measured-over : at < length values → None ≡ room_after 0 room numbers lengths values
     unfolding total
     measured-over k = sym (all_small [] [] (drop at values) before left (λ a. omega (arith, a.sum, length-drop at values))) ∙ ended
 
-    pub measured-done : length values ≤ at → Left left ≡ room_after 0 room numbers lengths values
+    pub measured-done : length values ≤ at → Some left ≡ room_after 0 room numbers lengths values
     measured-done k = sym (room-end before left (drop at values) (rw length-drop (omega arith))) ∙ ended

@@ -10,8 +10,7 @@ use borrow.Author.Tests.{leb-true, le-leb}
 use Rattle.message_format.specs.Format.{bytes_of, head_bytes, options_bytes, payload_bytes, options_ok, empty_ok, encodable}
 use Rattle.message_measure.specs.Given.{Given, options_from, describes, message_of, takes}
 use Rattle.message_measure.specs.Rooms.{room_after, options_fit}
-use Rattle.message_measure.specs.declared.Room.{Room}
-use Rattle.message_measure.specs.declared.Room.TheVariants.{Left, Small}
+use Rattle.std.specs.Prelude.{Option, Some, None}
 use Rattle.pieces.proofs.Tests.{and_left, and_right, refute, same_test}
 use Rattle.message_measure.proofs.Measures.{described, describes-by, all_fit, fit_all, left-test, small-test}
 
@@ -88,27 +87,25 @@ empty-is g d = rw (count g.numbers g.lengths g.values (described g.numbers g.len
 pub empty-refused : (room : ℕ) (g : Given) (r : Bool) → r ≡ cond (eqb g.code 0) (eqb (length g.token + length g.numbers + length g.payload) 0) true → r ≡ false → false ≡ takes room g
 empty-refused room g r e f = not_taken room g (λ t. false≢true (sym f ∙ e ∙ sym (empty-is g t.described) ∙ t.empty))
 
-module _ (room : ℕ) (g : Given) (h : 4 + length g.token ≤ room) where
-  abbrev Left-over : ℕ
-  Left-over = room - (4 + length g.token)
-
-  options-fit : Taken room g → options_fit 0 Left-over g.numbers g.lengths g.values ≡ true
+-- the head and the token leave so much of the room
+module _ (room : ℕ) (g : Given) (left-over : ℕ) (h : left-over + (4 + length g.token) ≡ room) where
+  options-fit : Taken room g → options_fit 0 left-over g.numbers g.lengths g.values ≡ true
   options-fit t =
       let d = described g.numbers g.lengths g.values t.described in
-      all_fit g.numbers g.lengths g.values 0 Left-over (record { counts = d.0; sum = d.1; ok = t.ok; small = omega (arith, t.small) })
+      all_fit g.numbers g.lengths g.values 0 left-over (record { counts = d.0; sum = d.1; ok = t.ok; small = omega (arith, t.small) })
 
-  pub options-small : {r : Room} → r ≡ room_after 0 Left-over g.numbers g.lengths g.values → r ≡ Small → false ≡ takes room g
+  pub options-small : {r : Option ℕ} → r ≡ room_after 0 left-over g.numbers g.lengths g.values → r ≡ None → false ≡ takes room g
   options-small is e =
-      not_taken room g (λ t. small-test (options_fit 0 Left-over g.numbers g.lengths g.values) (Left-over - length (options_of g)) (sym is ∙ e) (options-fit t))
+      not_taken room g (λ t. small-test (options_fit 0 left-over g.numbers g.lengths g.values) (left-over - length (options_of g)) (sym is ∙ e) (options-fit t))
 
-  pub options-left : {r : Room} → r ≡ room_after 0 Left-over g.numbers g.lengths g.values → (left : ℕ) → r ≡ Left left
+  pub options-left : {r : Option ℕ} → r ≡ room_after 0 left-over g.numbers g.lengths g.values → (left : ℕ) → r ≡ Some left
       → g.message_type ≤ 3 → g.code ≤ 255 → g.message_id ≤ 65535 → length g.token ≤ 8
       → cond (eqb g.code 0) (eqb (length g.token + length g.numbers + length g.payload) 0) true ≡ true
       → leb (length (payload_bytes g.payload)) left ≡ takes room g
   options-left is left e kind code id token empty =
       let n : ℕ = length (payload_bytes g.payload) in
-      let p = left-test (options_fit 0 Left-over g.numbers g.lengths g.values) (Left-over - length (options_of g)) left (sym is ∙ e) in
-      let f = fit_all g.numbers g.lengths g.values 0 Left-over p.0 in
+      let p = left-test (options_fit 0 left-over g.numbers g.lengths g.values) (left-over - length (options_of g)) left (sym is ∙ e) in
+      let f = fit_all g.numbers g.lengths g.values 0 left-over p.0 in
       let d = describes-by g.numbers g.lengths g.values f.counts f.sum in
       same_test (leb n left) (takes room g)
       (λ t. takes-by room g (record {

@@ -1,9 +1,7 @@
--- What the options leave of the output's room.
-use Rattle.std.specs.Prelude.{ℕ, ◌+◌, ◌-◌, Bool, cond, ◌&&◌, List, leb, length}
+-- What the options leave of the output's room: none where they have no encoding or do not fit.
+use Rattle.std.specs.Prelude.{ℕ, ◌+◌, ◌-◌, Bool, cond, ◌&&◌, List, leb, length, Option, Some, None}
 use Rattle.message_format.specs.Format.{option_head, options_bytes, options_ok}
 use Rattle.message_measure.specs.Given.{options_from, describes}
-use Rattle.message_measure.specs.declared.Room.{Room}
-use Rattle.message_measure.specs.declared.Room.TheVariants.{Left, Small}
 
 -- How many bytes an option takes.
 abbrev pub option_length : ℕ → ℕ → ℕ
@@ -15,9 +13,9 @@ option_fits room before number len values =
     leb before number && leb number 65535 && leb len 65804 && leb len values && leb (option_length (number - before) len) room
 
 -- What it leaves of the room.
-abbrev pub room_after_option : ℕ → ℕ → ℕ → ℕ → ℕ → Room
+abbrev pub room_after_option : ℕ → ℕ → ℕ → ℕ → ℕ → Option ℕ
 room_after_option room before number len values =
-    cond (option_fits room before number len values) (Left (room - option_length (number - before) len)) Small
+    cond (option_fits room before number len values) (Some (room - option_length (number - before) len)) None
 
 -- All options, the first after one of the number `before`, have an encoding and fit the room.
 unfoldable pub options_fit : ℕ → ℕ → List ℕ → List ℕ → List ℕ → Bool
@@ -27,6 +25,6 @@ options_fit before room numbers lengths values =
     && leb (length (options_bytes before (options_from numbers lengths values))) room
 
 -- What they leave of the room.
-abbrev pub room_after : ℕ → ℕ → List ℕ → List ℕ → List ℕ → Room
+abbrev pub room_after : ℕ → ℕ → List ℕ → List ℕ → List ℕ → Option ℕ
 room_after before room numbers lengths values =
-    cond (options_fit before room numbers lengths values) (Left (room - length (options_bytes before (options_from numbers lengths values)))) Small
+    cond (options_fit before room numbers lengths values) (Some (room - length (options_bytes before (options_from numbers lengths values)))) None

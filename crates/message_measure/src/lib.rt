@@ -6,100 +6,71 @@ ghost use Rattle.message_format.specs.Format.{extension, payload_bytes};
 ghost use Rattle.message_measure.specs.Given.{given, takes};
 ghost use Rattle.message_measure.specs.Rooms.{room_after, room_after_option};
 
-// What is left of the output, or that it is too small or the options have no encoding.
-#[derive(Clone, Copy)]
-enum Room {
-    Left(usize),
-    Small,
-}
-
 // How many bytes extend the nibble of a delta or a length.
+#[tactic(auto, unfolding(message_format::specs::Format::extension))]
 fn extension_length(n: usize) -> usize
     ensures { (result ≡ length (extension n)) × (result ≤ 2) }
 {
-    if n < 13 {
-        return 0;
+    match n {
+        0..13 => 0,
+        13..269 => 1,
+        _ => 2,
     }
-    if n < 269 {
-        return 1;
-    }
-    2
 }
 
-// What one option leaves of the room, of a number after `before` and with so many bytes of values left.
-fn option(room: usize, before: usize, number: usize, len: usize, values: usize) -> Room
+// What one option leaves of the room, of a number after `before` and with so many bytes of values left, if it has an encoding and fits.
+#[tactic(auto, unfolding(crate::specs::Rooms::option_fits, message_format::specs::Format::option_head))]
+fn option(room: usize, before: usize, number: usize, len: usize, values: usize) -> Option<usize>
     ensures { result ≡ room_after_option room before number len values }
 {
-    if number < before {
-        return Room::Small;
-    }
-    if 65535 < number {
-        return Room::Small;
-    }
-    if 65804 < len {
-        return Room::Small;
-    }
-    if values < len {
-        return Room::Small;
+    if number < before || 65535 < number || 65804 < len || values < len {
+        return None;
     }
     let head = 1 + extension_length(number - before) + extension_length(len);
-    if room < head + len {
-        return Room::Small;
-    }
-    Room::Left(room - (head + len))
+    room.checked_sub(head + len)
 }
 
-fn options<'a>(room: usize, numbers: &'a [u32], lengths: &'a [u32], values: &'a [u8]) -> Room
+// What all options leave of the room, if they have an encoding and fit.
+fn options<'a>(
+    room: usize,
+    numbers: &'a [u32],
+    lengths: &'a [u32],
+    values: &'a [u8],
+) -> Option<usize>
     ensures { result ≡ room_after 0 room numbers.now lengths.now values.now }
 {
     if numbers.len() != lengths.len() {
-        return Room::Small;
+        return None;
     }
     let mut left = room;
     let mut before = 0;
     let mut at = 0;
-    let mut i = 0;
-    while i < numbers.len() {
-        let number = wide::usize_of_u32(numbers[i]);
-        let len = wide::usize_of_u32(lengths[i]);
-        let Room::Left(after) = option(left, before, number, len, values.len() - at) else {
-            return Room::Small;
-        };
-        left = after;
+    for (number, len) in numbers.iter().zip(lengths) {
+        let number = *number as usize;
+        let len = *len as usize;
+        left = option(left, before, number, len, values.len() - at)?;
         before = number;
         at += len;
-        i += 1;
     }
     if at < values.len() {
-        return Room::Small;
+        return None;
     }
-    Room::Left(left)
+    Some(left)
 }
 
 // Whether the payload and its marker fit.
+#[tactic(auto, unfolding(message_format::specs::Format::payload_bytes))]
 fn payload_fits(room: usize, payload: &[u8]) -> bool
     ensures { result ≡ leb (length (payload_bytes payload.now)) room }
 {
-    if payload.len() == 0 {
-        return true;
-    }
-    payload.len() < room
+    payload.is_empty() || payload.len() < room
 }
 
 // "A code of 0.00 (empty) has token length 0 and nothing after the message ID."
 fn empty_ok(code: u8, token: usize, options: usize, payload: usize) -> bool
     ensures { result ≡ cond (eqb code 0) (eqb (token + options + payload) 0) true }
 {
-    if code != 0 {
-        return true;
-    }
-    if token != 0 {
-        return false;
-    }
-    if options != 0 {
-        return false;
-    }
-    payload == 0
+    code != 0 || token == 0 && options == 0 && payload == 0
 }
 
 // It asks for no message ID: each of 16 bits has an encoding.
@@ -116,20 +87,16 @@ pub fn takes<'a>(
     ensures { (id : ℕ) → id ≤ 65535 → result ≡ takes room (given message_type code id token.now
         numbers.now lengths.now values.now payload.now) }
 {
-    if 3 < message_type {
-        return false;
-    }
-    if 8 < token.len() {
+    if 3 < message_type || 8 < token.len() {
         return false;
     }
     if !empty_ok(code, token.len(), numbers.len(), payload.len()) {
         return false;
     }
-    let head = 4 + token.len();
-    if room < head {
+    let Some(room) = room.checked_sub(4 + token.len()) else {
         return false;
-    }
-    let Room::Left(left) = options(room - head, numbers, lengths, values) else {
+    };
+    let Some(left) = options(room, numbers, lengths, values) else {
         return false;
     };
     payload_fits(left, payload)

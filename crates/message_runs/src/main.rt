@@ -3,13 +3,12 @@
 
 ghost use Rattle.std.specs.Prelude.{◌≤◌, length};
 
-use message::Reading;
-use message_writer::Writing;
+use message_writer::NotWritten;
 
 // More than any of these messages takes.
 const ROOM: usize = 70000;
 
-// The number, and a space.
+// The number, and a space. option_runs has the same: the crates that both use only put text, and print none.
 fn print_number(n: usize) {
     let mut text = [b' '; 21];
     let at = script_text::put_decimal(&mut text, 0, n as u64);
@@ -36,28 +35,28 @@ fn print_hex(bytes: &[u8])
 // What the reader makes of what was written: its bare length, and where the payload starts.
 fn print_read(bytes: &[u8]) {
     match message::from_bytes(bytes) {
-        Reading::Message(packet) => {
+        Ok(packet) => {
             print_number(message::bare(packet));
             print_number(packet.payload.from);
         }
-        Reading::Refused(number) => {
+        Err(malformed) => {
             io::write_all(1, b"refused-");
-            print_number(number as usize);
+            print_number(usize::from(u8::from(malformed)));
         }
     }
 }
 
 // The length, the bare length and the start of the payload, and the first bytes; of a refused message the number, and the output's first bytes.
-fn show(writing: Writing, out: &[u8]) {
+fn show(writing: Result<usize, NotWritten>, out: &[u8]) {
     match writing {
-        Writing::Written(n) => {
+        Ok(n) => {
             print_number(n);
             print_read(pieces::within(out, 0, n));
             print_start(pieces::within(out, 0, n));
         }
-        Writing::Refused(number) => {
+        Err(not_written) => {
             io::write_all(1, b"refused-");
-            print_number(number as usize);
+            print_number(usize::from(u8::from(not_written)));
             print_start(pieces::within(out, 0, 4));
         }
     }
@@ -77,7 +76,7 @@ fn write<'a>(
 )
     requires { room ≤ 70000 }
 {
-    let mut all = output();
+    let mut all = buffers::zeros::<ROOM>();
     let out = &mut all[..room];
     let writing = message_writer::to_bytes(
         out,
@@ -136,9 +135,9 @@ fn documented() {
 
 // A message with no options, whose token and payload have so many bytes.
 fn plain(message_type: u8, code: u8, token: usize, payload: usize) {
-    let bytes = zeros();
-    print_number(message_type as usize);
-    print_number(code as usize);
+    let bytes = buffers::zeros::<65805>();
+    print_number(usize::from(message_type));
+    print_number(usize::from(code));
     print_number(token);
     print_number(payload);
     write(
@@ -169,7 +168,7 @@ fn empty() {
 
 // An option of a number, whose length is said to be len where there are so many bytes of values.
 fn option(code: u8, number: u32, len: u32, values: usize) {
-    let bytes = zeros();
+    let bytes = buffers::zeros::<65805>();
     print_number(number as usize);
     print_number(len as usize);
     print_number(values);
@@ -217,15 +216,6 @@ fn orders() {
     option(1, 3, 2, 3);
     option(1, 3, 2, 1);
     option(0, 1, 0, 0);
-}
-
-// Memory that no proof has to write out.
-fn zeros() -> [u8; 65805] {
-    [0u8; 65805]
-}
-
-fn output() -> [u8; ROOM] {
-    [0u8; ROOM]
 }
 
 fn main() {

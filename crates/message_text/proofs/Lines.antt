@@ -1,28 +1,28 @@
 -- The line of a message, by what the reader answers, and what is said of a line, by what its hex says. Assumes nothing.
 use mathlib.Core.Path.{◌≡◌, refl, sym, ap, ◌∙◌}
 use mathlib.Core.List.{List, ◌++◌}
-use Prim.Native.Nat.{ℕ, ◌-◌}
+use Prim.Native.Nat.{ℕ}
 use native.Mathlib.Omega.{arith}
-use lib.ListN.{length, take}
+use lib.ListN.{length}
 use Rattle.message_format.specs.Format.{Message, Meaning, malformed, means, meaning_of}
 use Rattle.message.specs.Reader.{reading_of, read_of}
 use Rattle.message.specs.declared.Packet.{Packet}
-use Rattle.message.specs.declared.Reading.TheVariants as reading
+use Rattle.message_format.specs.declared.Malformed.{Malformed}
+use Rattle.std.specs.Prelude.{Err}
 use Rattle.head_text.specs.Head.{head_text}
 use Rattle.parts_text.specs.Parts.{parts_text}
 use Rattle.parts_text.proofs.Places.{Read}
-use Rattle.hex_line.specs.Line.{hex_of, bytes_of}
-use Rattle.hex_line.specs.declared.Hex.{Hex}
+use Rattle.hex_line.specs.Line.{Hex, hex_of, bytes_of}
 use Rattle.message_text.specs.Text.{refused_text, message_text, meaning_text, shown_text, line_text}
 
-refused-tells : (bytes : List ℕ) (code : ℕ) → read_of bytes ≡ reading.Refused code → meaning_of bytes ≡ malformed
+refused-tells : (bytes : List ℕ) (code : Malformed) → read_of bytes ≡ Err code → meaning_of bytes ≡ malformed
 refused-tells bytes code e = go (meaning_of bytes) refl e
   where
-    go : (meaning : Meaning) → meaning_of bytes ≡ meaning → reading_of (length bytes) meaning ≡ reading.Refused code → meaning_of bytes ≡ malformed
+    go : (meaning : Meaning) → meaning_of bytes ≡ meaning → reading_of (length bytes) meaning ≡ Err code → meaning_of bytes ≡ malformed
     go malformed p q = p
     go (means m) p q = absurd (let z : ◌≡◌ {A = ℕ} 0 1 = cc in omega arith)
 
-pub refused-line : (number : ℕ) (bytes : List ℕ) (code : ℕ) → read_of bytes ≡ reading.Refused code → refused_text number ≡ meaning_text number (meaning_of bytes)
+pub refused-line : (number : ℕ) (bytes : List ℕ) (code : Malformed) → read_of bytes ≡ Err code → refused_text number ≡ meaning_text number (meaning_of bytes)
 refused-line number bytes code e = ap (meaning_text number) (sym (refused-tells bytes code e))
 
 pub message-line : (number : ℕ) (bytes : List ℕ) (packet : Packet) (m : Message) → Read bytes packet m
@@ -36,7 +36,3 @@ message-line number bytes packet m r =
 pub shown-is : (number : ℕ) (line : List ℕ) (h : Hex) → h ≡ hex_of line → shown_text number h (bytes_of line) ≡ line_text number line
 unfolding line_text
 shown-is number line h e = ap (λ (g : Hex). shown_text number g (bytes_of line)) e
-
--- a part that is lent from the start
-pub lent-first : (n : ℕ) (bytes : List ℕ) → take (n - 0) bytes ≡ take n bytes
-lent-first n bytes = let e : n - 0 ≡ n = omega arith in ap (λ (i : ℕ). take i bytes) e

@@ -1,10 +1,8 @@
 -- What is said of a line of hex, as a list of bytes: what its bytes mean (RFC 7252), by the fields of a line, or why it is unreadable.
-use Rattle.std.specs.Prelude.{ℕ, List, [], ◌∷◌, ◌++◌}
+use Rattle.std.specs.Prelude.{ℕ, List, [], ◌∷◌, ◌++◌, Some, None, Ok, Err}
 use Rattle.message_format.specs.Format.{Message, Meaning, malformed, means, meaning_of}
 use Rattle.script_text.specs.Text.{decimal}
-use Rattle.hex_line.specs.Line.{hex_of, bytes_of}
-use Rattle.hex_line.specs.declared.Hex.{Hex}
-use Rattle.hex_line.specs.declared.Hex.TheVariants as hex
+use Rattle.hex_line.specs.Line.{Hex, hex_of, bytes_of}
 use Rattle.hex_line.specs.declared.Why.{Why}
 use Rattle.hex_line.specs.declared.Why.TheVariants as why
 use Rattle.head_text.specs.Head.{head_text}
@@ -30,9 +28,9 @@ meaning_text number (means m) = message_text number m
 
 -- What standard output gets for a line: nothing where it is skipped. The bytes are those that its hex says.
 abbrev pub shown_text : ℕ → Hex → List ℕ → List ℕ
-shown_text number hex.Skipped bytes = []
-shown_text number (hex.Bytes n) bytes = meaning_text number (meaning_of bytes)
-shown_text number (hex.Unread w) bytes = unreadable_text number
+shown_text number (Ok None) bytes = []
+shown_text number (Ok (Some n)) bytes = meaning_text number (meaning_of bytes)
+shown_text number (Err w) bytes = unreadable_text number
 
 unfoldable pub line_text : ℕ → List ℕ → List ℕ
 line_text number line = shown_text number (hex_of line) (bytes_of line)
@@ -71,6 +69,5 @@ why_text number why.Odd = because number odd_number
 
 -- What standard error gets for a line: nothing where it is readable or skipped.
 abbrev pub reason_text : ℕ → Hex → List ℕ
-reason_text number hex.Skipped = []
-reason_text number (hex.Bytes n) = []
-reason_text number (hex.Unread w) = why_text number w
+reason_text number (Ok said) = []
+reason_text number (Err w) = why_text number w

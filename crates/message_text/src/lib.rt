@@ -9,7 +9,6 @@ ghost use Rattle.hex_line.specs.Line.{most_digits, hex_of};
 ghost use Rattle.message_text.specs.Text.{meaning_text, line_text, because, why_text, reason_text};
 
 use hex_line::{Hex, Why};
-use message::Reading;
 
 // The line's number, and what is said instead of a message.
 fn put_verdict(out: &mut [u8], at: usize, number: u64, verdict: &[u8]) -> usize
@@ -27,7 +26,7 @@ fn put_message(out: &mut [u8], at: usize, number: u64, message: &[u8]) -> usize
     ensures put { Put out.old at (meaning_text number (meaning_of message.now)) out.new result }
     ensures upper_bound { result ≤ at + 8 * length message.now + 64 }
 {
-    let Reading::Message(packet) = message::from_bytes(message) else {
+    let Ok(packet) = message::from_bytes(message) else {
         return put_verdict(out, at, number, b" refused-11 - - - - -\n");
     };
     let kind = packet.message_type;
@@ -61,12 +60,12 @@ pub fn put_line(
 {
     let hex = hex_line::read_line(line, text, bytes);
     match hex {
-        Hex::Skipped => Shown { end: at, hex },
-        Hex::Bytes(n) => {
-            let end = put_message(out, at, number, &bytes[0..n]);
+        Ok(None) => Shown { end: at, hex },
+        Ok(Some(n)) => {
+            let end = put_message(out, at, number, &bytes[..n]);
             Shown { end, hex }
         }
-        Hex::Unread(_) => {
+        Err(_) => {
             let end = put_verdict(out, at, number, b" unreadable - - - - -\n");
             Shown { end, hex }
         }
@@ -107,8 +106,7 @@ pub fn put_reason(out: &mut [u8], at: usize, number: u64, hex: Hex) -> usize
     ensures upper_bound { result ≤ at + 84 }
 {
     match hex {
-        Hex::Skipped => at,
-        Hex::Bytes(_) => at,
-        Hex::Unread(why) => put_why(out, at, number, why),
+        Ok(_) => at,
+        Err(why) => put_why(out, at, number, why),
     }
 }

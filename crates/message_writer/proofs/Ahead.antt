@@ -2,10 +2,20 @@
 use mathlib.Core.Path.{◌≡◌, refl, ap, ◌∙◌}
 use mathlib.Core.Bool.{true}
 use mathlib.Core.List.{List, [], ◌∷◌, ◌++◌}
-use Prim.Native.Nat.{ℕ, ◌+◌, ◌-◌, ◌≤◌, ◌<◌}
+use Prim.Native.Nat.{ℕ, ◌+◌, ◌-◌, ◌≤◌, ◌<◌, min}
 use native.Mathlib.Omega.{arith}
 use lib.ListN.{length, get_or, take, drop, length-append, length-drop, drop_of_length-le}
 use lib.Seq.{drop-drop, length-take-le}
+use denote.Ref.{Bor}
+use Rattle.std.specs.declared.iter.Zip.{Zip}
+use Rattle.std.proofs.Common.{Iter}
+use Rattle.std.specs.Prelude.{Option, Some}
+use Rattle.std.specs.Iterator.{Yields}
+use Rattle.std.specs.Iterator.Adapters.{zip_first, zip_second}
+use Rattle.std.specs.Slice.Iter.{iter_rest}
+use Rattle.std.proofs.iter.Yields.{fronts}
+use Rattle.std.proofs.lemmas.Iterator.{zips}
+use Rattle.std.proofs.lemmas.Slice.Zip.{zip_turn}
 use Rattle.pieces.specs.Memory.{Put}
 use Rattle.pieces.proofs.Puts.{put-none, put_then, put_as, put-length}
 use Rattle.message_format.specs.Format.{option_head, options_bytes, options_ok}
@@ -39,8 +49,11 @@ module _ (out₀ : List ℕ) (start : ℕ) (numbers lengths values : List ℕ) w
 
 module _ {out₀ : List ℕ} {start : ℕ} {numbers lengths values out : List ℕ} {to before at i : ℕ} (a : Ahead out₀ start numbers lengths values out to before at i) where
   -- there is a length where there is a number
-  pub more : i < length numbers → i < length lengths
+  more : i < length numbers → i < length lengths
   more h = omega (arith, a.fit.counts, length-drop i numbers, length-drop i lengths)
+
+  pub all-done : i ≡ min (length numbers) (length lengths) → length numbers ≤ i
+  all-done h = omega (arith, a.fit.counts, a.within, length-drop i numbers, length-drop i lengths)
 
   pub ahead-done : length numbers ≤ i → Put out₀ start (options_bytes 0 (options_from numbers lengths values)) out to
   unfolding options_bytes options_from
@@ -55,6 +68,14 @@ pub record Turn (out₀ : List ℕ) (start : ℕ) (numbers lengths values out : 
   pub there : i < length numbers
   pub numbered : number ≡ get_or numbers i 0
   pub sized : len ≡ get_or lengths i 0
+
+-- the turn of a `for` over the pairs of a number and a length
+pub turn : {out₀ : List ℕ} {start : ℕ} {numbers lengths values out : List ℕ} {to before at : ℕ} (xs : List (Bor ℕ × Bor ℕ)) (s t u : Zip (Iter ℕ) (Iter ℕ)) (r : Option (Bor ℕ × Bor ℕ))
+    → iter_rest (zip_first s) ≡ numbers → iter_rest (zip_second s) ≡ lengths → Yields (zips fronts fronts) s xs t → (p : Bor ℕ × Bor ℕ) → r ≡ Some p → zips fronts fronts t r u
+    → Ahead out₀ start numbers lengths values out to before at (length xs) → Turn out₀ start numbers lengths values out to before at (length xs) p.0.now p.1.now
+turn {numbers = numbers} {lengths = lengths} xs s t u r first second y p e h a =
+    let z = zip_turn numbers lengths xs s t u r first second y p e h in
+    record { ahead = a; there = z.0; numbered = z.2 0; sized = z.3 0 }
 
 module _ {out₀ : List ℕ} {start : ℕ} {numbers lengths values out : List ℕ} {to before at i number len : ℕ} (t : Turn out₀ start numbers lengths values out to before at i number len) where
   numbers-next : drop i numbers ≡ number ∷ drop (i + 1) numbers

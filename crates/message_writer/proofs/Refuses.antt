@@ -1,5 +1,5 @@
 -- What the answer says: of what is written, that it was described, has an encoding and stands at the start; of what is refused, that the
--- output is untouched. Assumes nothing.
+-- output is untouched, and its number. Assumes nothing.
 use mathlib.Core.Path.{◌≡◌, refl}
 use mathlib.Core.Bool.{Bool, true, false, cond, ◌&&◌}
 use mathlib.Core.List.{List}
@@ -12,8 +12,9 @@ use Rattle.pieces.specs.Memory.{patch, part}
 use Rattle.pieces.proofs.Memory.{part-patch}
 use Rattle.message_format.specs.Format.{bytes_of, encodable}
 use Rattle.message_measure.specs.Given.{Given, describes, message_of, takes}
-use Rattle.message_writer.specs.Writer.{Writes}
-use Rattle.message_writer.specs.declared.Writing.TheVariants.{Written, Refused}
+use Rattle.message_writer.specs.declared.NotWritten.{NotWritten}
+use Rattle.std.specs.Prelude.{Result, Ok, Err}
+use Rattle.message_writer.specs.Writer.{Writes, refusal_number}
 use Rattle.pieces.proofs.Tests.{and_left, and_right}
 
 pub record Described (room : ℕ) (g : Given) : Type 0 where
@@ -31,19 +32,19 @@ takes-parts room g t =
     record { described = and_left d e de; encoded = and_right d e de; fits = leb-true n room (and_right (d && e) (leb n room) t) }
 
 -- what an answer says of the test behind it
-written-test : (b : Bool) (n m : ℕ) → Written n ≡ cond b (Written m) (Refused 21) → (b ≡ true) × (n ≡ m)
+written-test : (b : Bool) (n m : ℕ) → ◌≡◌ {A = Result ℕ NotWritten} (Ok n) (cond b (Ok m) (Err (record {}))) → (b ≡ true) × (n ≡ m)
 written-test true n m e = (refl, cc)
 written-test false n m e = let z : ◌≡◌ {A = ℕ} 0 1 = cc in absurd (omega arith)
 
-pub refused-test : (b : Bool) (k m : ℕ) → Refused k ≡ cond b (Written m) (Refused 21) → (b ≡ false) × (k ≡ 21)
+pub refused-test : (b : Bool) (k : NotWritten) (m : ℕ) → ◌≡◌ {A = Result ℕ NotWritten} (Err k) (cond b (Ok m) (Err (record {}))) → b ≡ false
 refused-test true k m e = let z : ◌≡◌ {A = ℕ} 0 1 = cc in absurd (omega arith)
-refused-test false k m e = (refl, cc)
+refused-test false k m e = refl
 
 module _ (out : List ℕ) (g : Given) (out' : List ℕ) where
-  pub written-described : (n : ℕ) → Writes out g out' (Written n) → Described (length out) g
+  pub written-described : (n : ℕ) → Writes out g out' (Ok n) → Described (length out) g
   written-described n w = takes-parts (length out) g (written-test (takes (length out) g) n (length (bytes_of (message_of g))) w.answer).0
 
-  pub written-bytes : (n : ℕ) → Writes out g out' (Written n) → take n out' ≡ bytes_of (message_of g)
+  pub written-bytes : (n : ℕ) → Writes out g out' (Ok n) → take n out' ≡ bytes_of (message_of g)
   unfolding part
   written-bytes n w =
       let b : List ℕ = bytes_of (message_of g) in
@@ -51,7 +52,5 @@ module _ (out : List ℕ) (g : Given) (out' : List ℕ) where
       let o : out' ≡ patch out 0 b = rw t.0 at w.output in
       rw (o, t.1) (part-patch out 0 b (omega arith))
 
-  pub refused-untouched : (k : ℕ) → Writes out g out' (Refused k) → (out' ≡ out) × (k ≡ 21)
-  refused-untouched k w =
-      let t = refused-test (takes (length out) g) k (length (bytes_of (message_of g))) w.answer in
-      (rw t.0 at w.output, t.1)
+  pub refused-untouched : (k : NotWritten) → Writes out g out' (Err k) → (out' ≡ out) × (refusal_number k ≡ 21)
+  refused-untouched k w = (rw (refused-test (takes (length out) g) k (length (bytes_of (message_of g))) w.answer) at w.output, refl)

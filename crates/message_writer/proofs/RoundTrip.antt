@@ -15,27 +15,27 @@ use Rattle.message_format.proofs.ReadBack.{read_back, encodable-tells}
 use Rattle.message_format.proofs.WriteBack.{write-back}
 use Rattle.message.proofs.Shown.{bare-is}
 use Rattle.message_measure.specs.Given.{Given, options_from, total, describes, message_of, takes}
+use Rattle.message_writer.specs.declared.NotWritten.{NotWritten}
+use Rattle.std.specs.Prelude.{Result, Ok, Err}
 use Rattle.message_writer.specs.Writer.{Writes, numbers_of, lengths_of, values_of, given_of}
-use Rattle.message_writer.specs.declared.Writing.{Writing}
-use Rattle.message_writer.specs.declared.Writing.TheVariants.{Written, Refused}
 use Rattle.message_writer.proofs.Refuses.{refused-test, written-described, written-bytes}
 
 module _ (out : List ℕ) (g : Given) (out' : List ℕ) where
   -- WHAT IS WRITTEN READS BACK THE SAME.
-  pub reads-back : (n : ℕ) → Writes out g out' (Written n) → meaning_of (take n out') ≡ means (message_of g)
+  pub reads-back : (n : ℕ) → Writes out g out' (Ok n) → meaning_of (take n out') ≡ means (message_of g)
   reads-back n w = ap meaning_of (written-bytes out g out' n w) ∙ read_back (message_of g) (written-described out g out' n w).encoded
 
   module _ (bytes : List ℕ) (b : Bytes bytes) (is : meaning_of bytes ≡ means (message_of g)) where
     -- WHAT IS READ AND WRITTEN AGAIN IS THE SAME BYTES.
-    pub same_bytes : (n : ℕ) → Writes out g out' (Written n) → take n out' ≡ bytes
+    pub same_bytes : (n : ℕ) → Writes out g out' (Ok n) → take n out' ≡ bytes
     same_bytes n w = written-bytes out g out' n w ∙ (write-back bytes (message_of g) b is).same
 
     -- REFUSED ONLY WHERE THE OUTPUT IS TOO SMALL for the bytes that mean the message, if the slices describe one and there are such bytes.
-    pub refused-small : (k : ℕ) → Writes out g out' (Refused k) → describes g.numbers g.lengths g.values ≡ true → length out < length bytes
+    pub refused-small : (k : NotWritten) → Writes out g out' (Err k) → describes g.numbers g.lengths g.values ≡ true → length out < length bytes
     unfolding takes
     refused-small k w d =
         let back = write-back bytes (message_of g) b is in
-        let test : takes (length out) g ≡ false = (refused-test (takes (length out) g) k (length (bytes_of (message_of g))) w.answer).0 in
+        let test : takes (length out) g ≡ false = refused-test (takes (length out) g) k (length (bytes_of (message_of g))) w.answer in
         let small : leb (length (bytes_of (message_of g))) (length out) ≡ false = rw (d, back.ok) at test in
         rw (← back.same) (leb-false (length (bytes_of (message_of g))) (length out) small)
 
@@ -68,8 +68,8 @@ given-same m =
     (λ i. record { message_type = m.message_type; code = m.code; message_id = m.message_id; token = m.token; options = options-same m.options i; payload = m.payload })
 
 -- a message that has an encoding is written where it fits
-module _ (m : Message) (ok : encodable m ≡ true) (out : List ℕ) (fits : length (bytes_of m) ≤ length out) (out' : List ℕ) (r : Writing) (w : Writes out (given_of m) out' r) where
-  pub written_of : r ≡ Written (length (bytes_of m))
+module _ (m : Message) (ok : encodable m ≡ true) (out : List ℕ) (fits : length (bytes_of m) ≤ length out) (out' : List ℕ) (r : Result ℕ NotWritten) (w : Writes out (given_of m) out' r) where
+  pub written_of : r ≡ Ok (length (bytes_of m))
   unfolding takes
   written_of =
       let d = given-described m.options in
@@ -78,12 +78,13 @@ module _ (m : Message) (ok : encodable m ≡ true) (out : List ℕ) (fits : leng
       w.answer ∙ rw (d, e, n, le-leb (length (bytes_of m)) (length out) fits)
 
 -- WHAT IS READ CAN BE WRITTEN, into any output that has room for it, and is then the same bytes.
-pub read-written : (bytes : List ℕ) (m : Message) → Bytes bytes → meaning_of bytes ≡ means m → (out out' : List ℕ) (r : Writing) → length bytes ≤ length out → Writes out (given_of m) out' r
-    → (r ≡ Written (length bytes)) × (take (length bytes) out' ≡ bytes)
+pub read-written : (bytes : List ℕ) (m : Message) → Bytes bytes → meaning_of bytes ≡ means m
+    → (out out' : List ℕ) (r : Result ℕ NotWritten) → length bytes ≤ length out → Writes out (given_of m) out' r
+    → (r ≡ Ok (length bytes)) × (take (length bytes) out' ≡ bytes)
 read-written bytes m b is out out' r fits w =
     let back = write-back bytes m b is in
     let n : length (bytes_of m) ≡ length bytes = ap length back.same in
-    let e : r ≡ Written (length bytes) = written_of m back.ok out (omega arith) out' r w ∙ ap Written n in
+    let e : r ≡ Ok (length bytes) = written_of m back.ok out (omega arith) out' r w ∙ ap Ok n in
     (e, same_bytes out (given_of m) out' bytes b (is ∙ ap means (sym (given-same m))) (length bytes) (rw e at w))
 
 -- ---- bare
@@ -105,13 +106,13 @@ without-ok m ok =
     go false p = refl
 
 -- `BARE` OF A MESSAGE READ IS THE LENGTH THAT THE WRITER NEEDS FOR IT WITHOUT ITS PAYLOAD.
-pub bare-written : (bytes : List ℕ) (m : Message) → Bytes bytes → meaning_of bytes ≡ means m → (out out' : List ℕ) (r : Writing)
-    → (packet_of (length bytes) m).options.to ≤ length out → Writes out (given_of (without_payload m)) out' r → r ≡ Written (packet_of (length bytes) m).options.to
+pub bare-written : (bytes : List ℕ) (m : Message) → Bytes bytes → meaning_of bytes ≡ means m → (out out' : List ℕ) (r : Result ℕ NotWritten)
+    → (packet_of (length bytes) m).options.to ≤ length out → Writes out (given_of (without_payload m)) out' r → r ≡ Ok (packet_of (length bytes) m).options.to
 bare-written bytes m b is out out' r fits w =
     let bare = bare-is bytes m is b in
-    written_of (without_payload m) (without-ok m (write-back bytes m b is).ok) out (omega arith) out' r w ∙ ap Written (sym bare)
+    written_of (without_payload m) (without-ok m (write-back bytes m b is).ok) out (omega arith) out' r w ∙ ap Ok (sym bare)
 
 -- ---- one result
 
-pub one-result : (out : List ℕ) (g : Given) (a b : List ℕ) (r s : Writing) → Writes out g a r → Writes out g b s → (a ≡ b) × (r ≡ s)
+pub one-result : (out : List ℕ) (g : Given) (a b : List ℕ) (r s : Result ℕ NotWritten) → Writes out g a r → Writes out g b s → (a ≡ b) × (r ≡ s)
 one-result out g a b r s v w = (v.output ∙ sym w.output, v.answer ∙ sym w.answer)

@@ -1,19 +1,22 @@
 -- What the writer makes of what it is given.
-use Rattle.std.specs.Prelude.{ℕ, cond, List, [], ◌∷◌, ◌++◌, ◌≡◌, length}
+use Rattle.std.specs.Prelude.{ℕ, cond, List, [], ◌∷◌, ◌++◌, ◌≡◌, length, Result, Ok, Err}
 use Rattle.pieces.specs.Memory.{patch}
 use Rattle.message_format.specs.Format.{CoapOption, Message, head_bytes, bytes_of}
 use Rattle.message_measure.specs.Given.{Given, given, message_of, takes}
-use Rattle.message_writer.specs.declared.Writing.{Writing}
-use Rattle.message_writer.specs.declared.Writing.TheVariants.{Written, Refused}
+use Rattle.message_writer.specs.declared.NotWritten.{NotWritten}
 
-abbrev pub writing_of : ℕ → Given → Writing
-writing_of room g = cond (takes room g) (Written (length (bytes_of (message_of g)))) (Refused 21)
+-- Document 02's number of it: "21, from the writer".
+abbrev pub refusal_number : NotWritten → ℕ
+refusal_number _ = 21
+
+abbrev pub writing_of : ℕ → Given → Result ℕ NotWritten
+writing_of room g = cond (takes room g) (Ok (length (bytes_of (message_of g)))) (Err (record {}))
 
 -- The output begins with the message's bytes, and is otherwise as it was; refused, it is untouched.
 abbrev pub output_of : List ℕ → Given → List ℕ
 output_of out g = cond (takes (length out) g) (patch out 0 (bytes_of (message_of g))) out
 
-pub record Writes (out : List ℕ) (g : Given) (out' : List ℕ) (r : Writing) : Type 0 where
+pub record Writes (out : List ℕ) (g : Given) (out' : List ℕ) (r : Result ℕ NotWritten) : Type 0 where
   pub answer : r ≡ writing_of (length out) g
   pub output : out' ≡ output_of out g
 

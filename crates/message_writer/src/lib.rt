@@ -3,19 +3,25 @@
 
 mod put;
 
+ghost use Rattle.std.specs.Prelude.{◌≡◌};
 ghost use Rattle.message_measure.specs.Given.{given};
-ghost use Rattle.message_writer.specs.Writer.{Writes};
+ghost use Rattle.message_writer.specs.Writer.{Writes, refusal_number};
 
-#[derive(Clone, Copy)]
-pub enum Writing {
-    // So many bytes, at the start of the output.
-    Written(usize),
-    // 21: no encoding, or an output too small.
-    Refused(u8),
+// No such message has an encoding, what is given describes none, or the output is too small for it.
+#[derive(Clone, Copy, Debug, PartialEq, Eq)]
+pub struct NotWritten;
+
+// Its number among the refusals.
+impl From<NotWritten> for u8 {
+    ghost from_gives = { λ why number. number ≡ refusal_number why };
+
+    fn from(_not_written: NotWritten) -> u8 {
+        21
+    }
 }
 
 // Writes a whole message: Packet::to_bytes in the Rust. The options are given by their numbers, the lengths of their values, and the values
-// one after another.
+// one after another: three slices, as C lends them.
 pub fn to_bytes<'a>(
     out: &mut [u8],
     message_type: u8,
@@ -26,11 +32,11 @@ pub fn to_bytes<'a>(
     lengths: &'a [u32],
     values: &'a [u8],
     payload: &'a [u8],
-) -> Writing
+) -> Result<usize, NotWritten>
     ensures { Writes out.old (given message_type code message_id token.now
         numbers.now lengths.now values.now payload.now) out.new result }
 {
-    if message_measure::takes(
+    if !message_measure::takes(
         out.len(),
         message_type,
         code,
@@ -40,9 +46,9 @@ pub fn to_bytes<'a>(
         values,
         payload,
     ) {
-        let at = put::head(out, message_type, code, message_id, token);
-        let at = put::options(out, at, numbers, lengths, values);
-        return Writing::Written(put::payload(out, at, payload));
+        return Err(NotWritten);
     }
-    Writing::Refused(21)
+    let at = put::head(out, message_type, code, message_id, token);
+    let at = put::options(out, at, numbers, lengths, values);
+    Ok(put::payload(out, at, payload))
 }

@@ -1,33 +1,28 @@
 -- The laws of the negotiation, by its cases. Assumes nothing.
-use mathlib.Core.Path.{◌≡◌}
-use mathlib.Core.Bool.{Bool, true, false}
+use Rattle.std.specs.Prelude.{Option, Some, None, Ok, Err}
+use mathlib.Core.Path.{◌≡◌, refl}
+use mathlib.Core.Bool.{Bool, true, false, cond}
 use mathlib.Core.List.{List}
 use Prim.Native.Nat.{ℕ, ◌+◌, ◌-◌, ◌/◌, min, ◌≤◌, ◌<◌}
 use lib.Dec.{ltb}
 use borrow.Author.Tests.{lt-ltb, le-ltb, eq-eqb, ne_eqb}
+use Rattle.refusal.specs.declared.Refusal.TheVariants.{TooLargeToEncode, NoBlockValue}
 use Rattle.config.specs.declared.Config.{Config}
 use Rattle.block_value.specs.Value.{made, block_size, block_start}
 use Rattle.block_option.specs.Option.{read_of}
 use Rattle.block_value.specs.declared.BlockValue.{BlockValue}
-use Rattle.block_option.specs.declared.Reading.{Reading}
-use Rattle.negotiation.specs.declared.MaybeBlock.{MaybeBlock}
-use Rattle.negotiation.specs.declared.MaybeBlock.TheVariants.{Absent, Given}
-use Rattle.negotiation.specs.declared.Negotiated.TheVariants.{NoBlock, Refused}
-use Rattle.negotiation.specs.Negotiation.{option_of, counted, request_block, reply_of, reply_at, within, negotiated}
+use Rattle.negotiation.specs.Negotiation.{option_of, request_block, reply_of, reply_at, within, negotiated}
 
 -- ---- the option
 
-pub asks_none : (c : Config) (given : Bool) (bytes : List ℕ) → given ≡ false → request_block c (option_of given bytes) ≡ Absent
+pub asks : (c : Config) (given : Bool) (bytes : List ℕ) → request_block c (option_of given bytes) ≡ cond given (read_of c.strict bytes) None
 unfolding request_block
-asks_none c given bytes e = rw e
-
-pub asks-as-read : (c : Config) (given : Bool) (bytes : List ℕ) (r s : Reading) → given ≡ true → r ≡ read_of c.strict bytes → r ≡ s → request_block c (option_of given bytes) ≡ counted s
-unfolding request_block
-asks-as-read c given bytes r s e f h = rw (e, ← f, h)
+asks c true bytes = refl
+asks c false bytes = refl
 
 -- ---- the reply
 
-pub reply-none : (c : Config) (offset g p : ℕ) → g ≡ 0 → reply_at c offset g p ≡ Refused 5
+pub reply-none : (c : Config) (offset g p : ℕ) → g ≡ 0 → reply_at c offset g p ≡ Err NoBlockValue
 unfolding reply_at
 reply-none c offset g p h = rw (eq-eqb g 0 h)
 
@@ -35,8 +30,8 @@ pub reply-made : (c : Config) (offset g p : ℕ) → (g ≡ 0 → ⊥) → reply
 unfolding reply_at
 reply-made c offset g p h = rw (ne_eqb g 0 h)
 
-module _ (c : Config) (b : MaybeBlock) (bare p : ℕ) where
-  pub no_room_lem : c.limit < bare + 12 → negotiated c b bare p ≡ Refused 4
+module _ (c : Config) (b : Option BlockValue) (bare p : ℕ) where
+  pub no_room_lem : c.limit < bare + 12 → negotiated c b bare p ≡ Err TooLargeToEncode
   unfolding negotiated
   no_room_lem h = rw (lt-ltb c.limit (bare + 12) h)
 
@@ -44,15 +39,15 @@ module _ (c : Config) (b : MaybeBlock) (bare p : ℕ) where
   unfolding negotiated
   with-room m h e = rw (le-ltb c.limit (bare + 12) h, e)
 
-module _ (c : Config) (b : MaybeBlock) (p m : ℕ) where
-  pub absent-fits : b ≡ Absent → p < m → within c b p m ≡ NoBlock
+module _ (c : Config) (b : Option BlockValue) (p m : ℕ) where
+  pub absent-fits : b ≡ None → p < m → within c b p m ≡ Ok None
   unfolding within
   absent-fits e h = rw (e, lt-ltb p m h)
 
-  pub absent-large : b ≡ Absent → m ≤ p → within c b p m ≡ reply_of (made c.strict 0 true m)
+  pub absent-large : b ≡ None → m ≤ p → within c b p m ≡ reply_of (made c.strict 0 true m)
   unfolding within
   absent-large e h = rw (e, le-ltb p m h)
 
-  pub given-at : (x : BlockValue) → b ≡ Given x → within c b p m ≡ reply_at c (block_start x) (min (block_size x) m) p
+  pub given-at : (x : BlockValue) → b ≡ Some x → within c b p m ≡ reply_at c (block_start x) (min (block_size x) m) p
   unfolding within
   given-at x e = rw e

@@ -1,4 +1,6 @@
 -- What a step can come to, gone through once: what is promised of a call's answer is read off these cases. Assumes nothing.
+use Rattle.refusal.specs.Numbers.{refusal_number}
+use Rattle.std.specs.Prelude.{Option, Some, None, Result, Ok, Err}
 use Prim.Native.Nat.{ℕ, ◌+◌, ◌-◌, ◌*◌, ◌≤◌, ◌<◌}
 use mathlib.Core.Bool.{Bool, true, false, cond, not, ◌&&◌}
 use mathlib.Core.Path.{◌≡◌, refl, sym, ◌∙◌, ap}
@@ -8,21 +10,16 @@ use native.Mathlib.Omega.{arith}
 use lib.ListN.{length}
 use lib.Dec.{leb, ltb}
 use borrow.Author.Tests.{not-false, ltb-false, leb-false}
+use Rattle.refusal.specs.declared.Refusal.{Refusal}
+use Rattle.refusal.specs.declared.Refusal.TheVariants.{NoRoom, OffLimits, ClockBack, TableFull, Jump, NotNext, BadForm}
 use Rattle.pieces.specs.Memory.{patch, piece_of}
 use Rattle.pieces.proofs.Tests.{on_test}
 use Rattle.splicing.specs.Splice.{spliced_length, splice_of, piece_after}
-use Rattle.splicing.specs.declared.Splice.{Splice}
-use Rattle.splicing.specs.declared.Splice.TheVariants as splice
 use Rattle.block_value.specs.Value.{block_size, block_start}
 use Rattle.block_value.specs.declared.BlockValue.{BlockValue}
 use Rattle.negotiation.specs.Negotiation.{request_block, negotiated}
-use Rattle.chunks.specs.Chunk.{chunk_of}
-use Rattle.negotiation.specs.declared.MaybeBlock.{MaybeBlock}
-use Rattle.negotiation.specs.declared.MaybeBlock.TheVariants.{Absent, Given}
-use Rattle.negotiation.specs.declared.Negotiated.{Negotiated}
-use Rattle.negotiation.specs.declared.Negotiated.TheVariants as agreed
+use Rattle.chunks.specs.Chunk.{chunk_of, bytes_under}
 use Rattle.chunks.specs.declared.Chunk.{Chunk}
-use Rattle.chunks.specs.declared.Chunk.TheVariants as chunk
 use Rattle.config.specs.declared.Config.{Config}
 use Rattle.block_state.specs.declared.Assembled.{Assembled}
 use Rattle.block_state.specs.declared.Cached.{Cached}
@@ -48,9 +45,9 @@ cond_same true x = refl
 cond_same false x = refl
 
 -- a splice is refused with 6 or 7, or gives a body that fits
-abbrev Sized : ℕ → ℕ → ℕ → ℕ → ℕ → Splice → Type 0
-Sized u l a s p (splice.Refused n) = (n ≡ 6) ⊎ (n ≡ 7)
-Sized u l a s p (splice.Body n) = (n ≡ spliced_length l a s p) × (n ≤ u)
+abbrev Sized : ℕ → ℕ → ℕ → ℕ → ℕ → Result ℕ Refusal → Type 0
+Sized u l a s p (Err n) = (n ≡ Jump) ⊎ (n ≡ NoRoom)
+Sized u l a s p (Ok n) = (n ≡ spliced_length l a s p) × (n ≤ u)
 
 sized : (u l a s p : ℕ) → Sized u l a s p (splice_of u l a s p)
 unfolding splice_of
@@ -68,38 +65,38 @@ module _ (c : Config) (home away : ℕ) (s : BlockState) (u : List ℕ) (r : Req
 
   -- block b was taken, and made a body of n bytes: it is the request's, a reply was agreed on, and strict mode's two tests let it pass
   pub record TookBlock (b reply : BlockValue) (n : ℕ) : Type 0 where
-    pub given : request_block c r.block1 ≡ Given b
-    pub reached : request_agrees c r ≡ agreed.Block reply
+    pub given : request_block c r.block1 ≡ Some b
+    pub reached : request_agrees c r ≡ Ok (Some reply)
     pub form : (c.strict && bad_form b (length r.payload)) ≡ false
     pub next : (c.strict && not_next s.assembled b) ≡ false
     pub long : n ≡ spliced_length (met b) (block_start b) (block_size b) (length r.payload)
     pub fits : n ≤ c.upload
 
   -- the Block1 value that goes out, the answer if nothing is served, and what is left of the assembly and of its piece
-  pub data Block1 : MaybeBlock → Answer → Assembled → List ℕ → Type 0 where
-    none : Block1 Absent Pass s.assembled u
-    took : (b reply : BlockValue) (n : ℕ) → TookBlock b reply n → Block1 (Given reply) (Handed reply (bytes_from home n)) (assembly 0 0) (spliced-by b)
+  pub data Block1 : Option BlockValue → Answer → Assembled → List ℕ → Type 0 where
+    none : Block1 None Pass s.assembled u
+    took : (b reply : BlockValue) (n : ℕ) → TookBlock b reply n → Block1 (Some reply) (Handed reply (bytes_from home n)) (assembly 0 0) (spliced-by b)
 
   -- why the step is refused with nothing changed
-  pub data Why : ℕ → Type 0 where
-    unagreed : (n : ℕ) → request_agrees c r ≡ agreed.Refused n → Why n
-    badly : (b reply : BlockValue) → request_block c r.block1 ≡ Given b → request_agrees c r ≡ agreed.Block reply
-        → (c.strict && bad_form b (length r.payload)) ≡ true → Why 10
-    astray : (b reply : BlockValue) → request_block c r.block1 ≡ Given b → request_agrees c r ≡ agreed.Block reply
-        → (c.strict && bad_form b (length r.payload)) ≡ false → (c.strict && not_next s.assembled b) ≡ true → Why 9
-    unspliced : (n : ℕ) → (n ≡ 6) ⊎ (n ≡ 7) → Why n
+  pub data Why : Refusal → Type 0 where
+    unagreed : (n : Refusal) → request_agrees c r ≡ Err n → Why n
+    badly : (b reply : BlockValue) → request_block c r.block1 ≡ Some b → request_agrees c r ≡ Ok (Some reply)
+        → (c.strict && bad_form b (length r.payload)) ≡ true → Why BadForm
+    astray : (b reply : BlockValue) → request_block c r.block1 ≡ Some b → request_agrees c r ≡ Ok (Some reply)
+        → (c.strict && bad_form b (length r.payload)) ≡ false → (c.strict && not_next s.assembled b) ≡ true → Why NotNext
+    unspliced : (n : Refusal) → (n ≡ Jump) ⊎ (n ≡ NoRoom) → Why n
 
   pub data Outcome : Left → Type 0 where
-    refused : (n : ℕ) → Why n → Outcome (left s u (Refused n))
-    past : (t : BlockState) (v : List ℕ) (block1 : MaybeBlock) (a : Answer) (z : Assembled) (x : BlockValue) (n : ℕ) → Block1 block1 a z v → t.assembled ≡ z
-        → t.cached ≡ s.cached → chunk_of x s.cached.payload ≡ chunk.Refused n → Outcome (left t v (Refused n))
-    too_large : (reply : BlockValue) → request_agrees c r ≡ agreed.Block reply → Outcome (left s u (TooLarge reply))
+    refused : (n : Refusal) → Why n → Outcome (left s u (Refused n))
+    past : (t : BlockState) (v : List ℕ) (block1 : Option BlockValue) (a : Answer) (z : Assembled) (x : BlockValue) (n : Refusal) → Block1 block1 a z v → t.assembled ≡ z
+        → t.cached ≡ s.cached → chunk_of x s.cached.payload ≡ Err n → Outcome (left t v (Refused n))
+    too_large : (reply : BlockValue) → request_agrees c r ≡ Ok (Some reply) → Outcome (left s u (TooLarge reply))
     continued : (t : BlockState) (b reply : BlockValue) (n : ℕ) → TookBlock b reply n → t.assembled ≡ assembly n b.size_exponent
         → t.cached ≡ s.cached → Outcome (left t (spliced-by b) (Continue reply))
-    onwards : (t : BlockState) (v : List ℕ) (block1 : MaybeBlock) (a : Answer) (z : Assembled) → Block1 block1 a z v → t.assembled ≡ z
+    onwards : (t : BlockState) (v : List ℕ) (block1 : Option BlockValue) (a : Answer) (z : Assembled) → Block1 block1 a z v → t.assembled ≡ z
         → t.cached ≡ s.cached → Outcome (left t v a)
-    serves : (t : BlockState) (v : List ℕ) (block1 : MaybeBlock) (a : Answer) (z : Assembled) (x y : BlockValue) (from to : ℕ) → Block1 block1 a z v
-        → t.assembled ≡ z → s.cached.held ≡ true → request_block c r.block2 ≡ Given x → chunk_of x s.cached.payload ≡ chunk.Bytes y from to
+    serves : (t : BlockState) (v : List ℕ) (block1 : Option BlockValue) (a : Answer) (z : Assembled) (x y : BlockValue) (from to : ℕ) → Block1 block1 a z v
+        → t.assembled ≡ z → s.cached.held ≡ true → request_block c r.block2 ≡ Some x → chunk_of x s.cached.payload ≡ Ok (bytes_under y from to)
         → t.cached ≡ kept_while y.more s.cached
         → Outcome
         (left t v (Served (record {
@@ -109,44 +106,44 @@ module _ (c : Config) (home away : ℕ) (s : BlockState) (u : List ℕ) (r : Req
           chunk = record { from = away + s.cached.head + from; to = away + s.cached.head + to };
         })))
 
-  module _ (t : BlockState) (v : List ℕ) (block1 : MaybeBlock) (a : Answer) (z : Assembled) (k : Block1 block1 a z v) (left_so : t.assembled ≡ z)
+  module _ (t : BlockState) (v : List ℕ) (block1 : Option BlockValue) (a : Answer) (z : Assembled) (k : Block1 block1 a z v) (left_so : t.assembled ≡ z)
       (e : t.cached ≡ s.cached) where
-    of-chunk : s.cached.held ≡ true → (x : BlockValue) → request_block c r.block2 ≡ Given x → (ch : Chunk) → chunk_of x s.cached.payload ≡ ch
-        → Outcome (block2.served away (with_recorded t (Given x)) v block1 ch)
+    of-chunk : s.cached.held ≡ true → (x : BlockValue) → request_block c r.block2 ≡ Some x → (ch : Result Chunk Refusal) → chunk_of x s.cached.payload ≡ ch
+        → Outcome (block2.served away (with_recorded t (Some x)) v block1 ch)
     unfolding block2.served
-    of-chunk held x asks (chunk.Refused n) is = past _ v block1 a z x n k left_so e is
-    of-chunk held x asks (chunk.Bytes y from to) is = rw e (serves _ v block1 a z x y from to k left_so held asks is refl)
+    of-chunk held x asks (Err n) is = past _ v block1 a z x n k left_so e is
+    of-chunk held x asks (Ok g) is = rw e (serves _ v block1 a z x g.block g.from g.to k left_so held asks is refl)
 
-    of-block2 : (asked : MaybeBlock) → request_block c r.block2 ≡ asked → Outcome (block2.onward away t v asked block1 a)
+    of-block2 : (asked : Option BlockValue) → request_block c r.block2 ≡ asked → Outcome (block2.onward away t v asked block1 a)
     unfolding block2.onward
-    of-block2 Absent asks = onwards _ v block1 a z k left_so e
-    of-block2 (Given x) asks =
+    of-block2 None asks = onwards _ v block1 a z k left_so e
+    of-block2 (Some x) asks =
         let same : chunk_of x s.cached.payload ≡ chunk_of x t.cached.payload = ap (λ (y : Cached). chunk_of x y.payload) (sym e) in
         on_test Outcome t.cached.held (λ held. of-chunk (sym (ap (λ (y : Cached). y.held) e) ∙ held) x asks (chunk_of x t.cached.payload) same)
         (λ _. onwards _ v block1 a z k left_so e)
 
   -- a block that was agreed on, by what taking it came to
-  abbrev Taking : BlockValue → BlockValue → Taken → Type 0
+  abbrev Taking : BlockValue → BlockValue → Result Taken Refusal → Type 0
   Taking b reply t =
       Outcome (on_taken home away s (piece_taken c s.assembled u b r.payload t) (request_block c r.block2) b.size_exponent reply t)
 
   of-splice : (b reply : BlockValue)
       → ((n : ℕ) → n ≡ spliced_length (met b) (block_start b) (block_size b) (length r.payload) → n ≤ c.upload → TookBlock b reply n)
-      → (sp : Splice) → Sized c.upload (met b) (block_start b) (block_size b) (length r.payload) sp → (more : Bool) → Taking b reply (taken_as more sp)
-  of-splice b reply k (splice.Refused n) is more = refused n (unspliced n is)
-  of-splice b reply k (splice.Body n) is true = continued _ b reply n (k n is.0 is.1) refl refl
-  of-splice b reply k (splice.Body n) is false =
-      of-block2 _ _ (Given reply) _ _ (took b reply n (k n is.0 is.1)) refl refl (request_block c r.block2) refl
+      → (sp : Result ℕ Refusal) → Sized c.upload (met b) (block_start b) (block_size b) (length r.payload) sp → (more : Bool) → Taking b reply (taken_as more sp)
+  of-splice b reply k (Err n) is more = refused n (unspliced n is)
+  of-splice b reply k (Ok n) is true = continued _ b reply n (k n is.0 is.1) refl refl
+  of-splice b reply k (Ok n) is false =
+      of-block2 _ _ (Some reply) _ _ (took b reply n (k n is.0 is.1)) refl refl (request_block c r.block2) refl
 
-  of-negotiated : (block1 : MaybeBlock) → request_block c r.block1 ≡ block1 → (n : Negotiated) → request_agrees c r ≡ n
+  of-negotiated : (block1 : Option BlockValue) → request_block c r.block1 ≡ block1 → (n : Result (Option BlockValue) Refusal) → request_agrees c r ≡ n
       → Outcome (on_negotiated c home away s u (request_block c r.block2) r.payload block1 n)
   unfolding on_negotiated block1_given taken
-  of-negotiated block1 given (agreed.Refused n) e = refused n (unagreed n e)
-  of-negotiated block1 given agreed.NoBlock e = of-block2 s u Absent Pass s.assembled none refl refl (request_block c r.block2) refl
-  of-negotiated Absent given (agreed.Block reply) e = too_large reply e
-  of-negotiated (Given b) given (agreed.Block reply) e =
-      on_test (Taking b reply) (c.strict && bad_form b (length r.payload)) (λ y. refused 10 (badly b reply given e y))
-      (λ form. on_test (Taking b reply) (c.strict && not_next s.assembled b) (λ y. refused 9 (astray b reply given e form y))
+  of-negotiated block1 given (Err n) e = refused n (unagreed n e)
+  of-negotiated block1 given (Ok None) e = of-block2 s u None Pass s.assembled none refl refl (request_block c r.block2) refl
+  of-negotiated None given (Ok (Some reply)) e = too_large reply e
+  of-negotiated (Some b) given (Ok (Some reply)) e =
+      on_test (Taking b reply) (c.strict && bad_form b (length r.payload)) (λ y. refused BadForm (badly b reply given e y))
+      (λ form. on_test (Taking b reply) (c.strict && not_next s.assembled b) (λ y. refused NotNext (astray b reply given e form y))
       (λ next. of-splice b reply (λ n long fits. record { given = given; reached = e; form = form; next = next; long = long; fits = fits })
       (splice_of c.upload (met b) (block_start b) (block_size b) (length r.payload)) (sized _ _ _ _ _) b.more))
 
@@ -158,18 +155,18 @@ module _ (c : Config) (home away : ℕ) (s : BlockState) (u : List ℕ) (r : Req
 
 module _ (c : Config) (s : BlockState) (d : List ℕ) (r : Response) where
   -- what it negotiates, and the chunk that it cuts then
-  abbrev pub responds : Negotiated
+  abbrev pub responds : Result (Option BlockValue) Refusal
   responds = negotiated c (recorded_block s.recorded) r.bare (length r.payload)
 
   abbrev pub Cut : BlockValue → ℕ → ℕ → Type 0
-  Cut y from to = (b : BlockValue) × (responds ≡ agreed.Block b) × (chunk_of b (length r.payload) ≡ chunk.Bytes y from to)
+  Cut y from to = (b : BlockValue) × (responds ≡ Ok (Some b)) × (chunk_of b (length r.payload) ≡ Ok (bytes_under y from to))
 
   -- the answers that store nothing
   pub data Unstored : Answer → Type 0 where
     plain : Unstored Plain
-    disagreed : (n : ℕ) → responds ≡ agreed.Refused n → Unstored (Refused n)
-    beyond : (b : BlockValue) (n : ℕ) → chunk_of b (length r.payload) ≡ chunk.Refused n → Unstored (Refused n)
-    crowded : Unstored (Refused 7)
+    disagreed : (n : Refusal) → responds ≡ Err n → Unstored (Refused n)
+    beyond : (b : BlockValue) (n : Refusal) → chunk_of b (length r.payload) ≡ Err n → Unstored (Refused n)
+    crowded : Unstored (Refused NoRoom)
     whole : (y : BlockValue) (from to : ℕ) → Cut y from to → Unstored (Whole y (record { from = from; to = to }))
 
   pub data Storing : Left → Type 0 where
@@ -178,20 +175,20 @@ module _ (c : Config) (s : BlockState) (d : List ℕ) (r : Response) where
         → length r.head + length r.payload ≤ c.response
         → Storing (left t (patch d 0 (r.head ++ r.payload)) (First y (record { from = from; to = to })))
 
-  storing-chunk : (b : BlockValue) → responds ≡ agreed.Block b → (ch : Chunk) → chunk_of b (length r.payload) ≡ ch → Storing (chunked c s d r.head r.payload ch)
+  storing-chunk : (b : BlockValue) → responds ≡ Ok (Some b) → (ch : Result Chunk Refusal) → chunk_of b (length r.payload) ≡ ch → Storing (chunked c s d r.head r.payload ch)
   unfolding chunked
-  storing-chunk b e (chunk.Refused n) is = as_before _ (beyond b n is)
-  storing-chunk b e (chunk.Bytes y from to) is =
-      on_test Storing y.more
+  storing-chunk b e (Err n) is = as_before _ (beyond b n is)
+  storing-chunk b e (Ok g) is =
+      on_test Storing g.block.more
       (λ _. on_test Storing (ltb c.response (length r.head + length r.payload)) (λ _. as_before _ crowded)
-      (λ n. stores _ y from to (b, e, is) refl refl (ltb-false c.response (length r.head + length r.payload) n)))
-      (λ _. as_before _ (whole y from to (b, e, is)))
+      (λ n. stores _ g.block g.from g.to (b, e, is) refl refl (ltb-false c.response (length r.head + length r.payload) n)))
+      (λ _. as_before _ (whole g.block g.from g.to (b, e, is)))
 
-  storing-reply : (n : Negotiated) → responds ≡ n → Storing (on_reply c s d r.head r.payload n)
+  storing-reply : (n : Result (Option BlockValue) Refusal) → responds ≡ n → Storing (on_reply c s d r.head r.payload n)
   unfolding on_reply
-  storing-reply (agreed.Refused n) e = as_before _ (disagreed n e)
-  storing-reply agreed.NoBlock e = as_before _ plain
-  storing-reply (agreed.Block b) e = storing-chunk b e (chunk_of b (length r.payload)) refl
+  storing-reply (Err n) e = as_before _ (disagreed n e)
+  storing-reply (Ok None) e = as_before _ plain
+  storing-reply (Ok (Some b)) e = storing-chunk b e (chunk_of b (length r.payload)) refl
 
   pub storing : Storing (step_response c s d r)
   unfolding step_response
@@ -215,19 +212,19 @@ abbrev pub opened_of : Config → World → Call → Entry
 opened_of c w q = opened q.key (row_of c w q)
 
 -- a call is refused by the first three checks, with nothing changed, or has its place
-pub early-or-placed : (P : Done → Type 0) (c : Config) (w : World) (q : Call) → ((n : ℕ) → (1 ≤ n) × (n ≤ 3) → P (done w (Refused n)))
+pub early-or-placed : (P : Done → Type 0) (c : Config) (w : World) (q : Call) → ((n : Refusal) → (1 ≤ refusal_number n) × (refusal_number n ≤ 3) → P (done w (Refused n)))
     → (within_limits c w q ≡ true → w.table.clock ≤ q.time → place_of c w q < 16
     → P (call_at c w q.time (row_of c w q) (place_of c w q) (opened_of c w q) q.what))
     → P (call c w q)
 unfolding call
 early-or-placed P c w q early placed =
-    on_test P (not (within_limits c w q)) (λ _. early 1 (omega arith, omega arith))
-    (λ ok. on_test P (ltb q.time w.table.clock) (λ _. early 2 (omega arith, omega arith))
-    (λ time. on_test P (leb 16 (place_of c w q)) (λ _. early 3 (omega arith, omega arith))
+    on_test P (not (within_limits c w q)) (λ _. early OffLimits (omega arith, omega arith))
+    (λ ok. on_test P (ltb q.time w.table.clock) (λ _. early ClockBack (omega arith, omega arith))
+    (λ time. on_test P (leb 16 (place_of c w q)) (λ _. early TableFull (omega arith, omega arith))
     (λ room. placed (not-false (within_limits c w q) ok) (ltb-false q.time w.table.clock time) (leb-false 16 (place_of c w q) room))))
 
 -- so a call's answer is an early refusal, or that of an outcome on its key's state
-module _ (P : Answer → Type 0) (c : Config) (w : World) (q : Call) (early : (n : ℕ) → (1 ≤ n) × (n ≤ 3) → P (Refused n)) where
+module _ (P : Answer → Type 0) (c : Config) (w : World) (q : Call) (early : (n : Refusal) → (1 ≤ refusal_number n) × (refusal_number n ≤ 3) → P (Refused n)) where
   abbrev here : ℕ
   here = place_of c w q
 

@@ -1,5 +1,6 @@
 -- What a step comes to, a law for each branch that the proofs need, and what the mode decides in it. Here and in Outcomes.antt alone they look into the steps. Assumes
 -- nothing.
+use Rattle.std.specs.Prelude.{Option, Some, None, Result, Ok, Err}
 use Prim.Native.Nat.{ℕ, ◌+◌, ◌/◌, ◌≤◌, ◌<◌}
 use mathlib.Core.Bool.{Bool, true, false, false≢true, ◌&&◌}
 use mathlib.Core.Path.{◌≡◌, refl, sym, ◌∙◌, ap}
@@ -8,25 +9,19 @@ use native.Mathlib.Omega.{arith}
 use lib.Dec.{ltb, eqb}
 use lib.ListN.{length}
 use borrow.Author.Tests.{ltb-true, ltb-false, lt-ltb, le-ltb, eqb-false}
+use Rattle.refusal.specs.declared.Refusal.{Refusal}
+use Rattle.refusal.specs.declared.Refusal.TheVariants.{NotNext, BadForm}
 use Rattle.pieces.proofs.Tests.{by_cases}
 use Rattle.config.specs.Mode.{byte_limit, num_limit}
 use Rattle.config.proofs.Mode.{bytes-least, bytes_most, limit-least, limit-most}
 use Rattle.splicing.specs.Splice.{splice_of, piece_after}
-use Rattle.splicing.specs.declared.Splice.{Splice}
-use Rattle.splicing.specs.declared.Splice.TheVariants as splice
 use Rattle.block_value.specs.Value.{made, block_size, block_start}
 use Rattle.block_option.specs.Uint.{uint}
 use Rattle.block_option.specs.Option.{unpacked, read_of}
-use Rattle.block_option.specs.declared.Reading.TheVariants.{Value}
 use Rattle.block_option.proofs.Laws.{read-few, read-long}
 use Rattle.block_value.specs.declared.BlockValue.{BlockValue}
-use Rattle.negotiation.specs.Negotiation.{counted, request_block, negotiated, within, reply_at}
-use Rattle.negotiation.specs.declared.MaybeBlock.{MaybeBlock}
-use Rattle.negotiation.specs.declared.MaybeBlock.TheVariants.{Absent, Given}
-use Rattle.negotiation.specs.declared.Negotiated.{Negotiated}
-use Rattle.negotiation.specs.declared.Negotiated.TheVariants as agreed
+use Rattle.negotiation.specs.Negotiation.{request_block, negotiated, within, reply_at}
 use Rattle.chunks.specs.declared.Chunk.{Chunk}
-use Rattle.chunks.specs.declared.Chunk.TheVariants as chunk
 use Rattle.config.specs.declared.Config.{Config}
 use Rattle.block_state.specs.declared.BlockState.{BlockState}
 use Rattle.block_state.specs.declared.Answer.TheVariants.{Continue, Handed, Refused}
@@ -64,15 +59,15 @@ reads-alike strict bytes other =
 
 zero-in-front : (a b : ℕ) → read_of false (a ∷ b ∷ []) ≡ read_of true (0 ∷ a ∷ b ∷ [])
 unfolding read_of byte_limit uint
-zero-in-front a b = ap (λ (n : ℕ). Value (unpacked n)) (omega arith)
+zero-in-front a b = ap (λ (n : ℕ). Some (unpacked n)) (omega arith)
 
 pub read_alike : ReadAlike
 unfolding request_block
 read_alike =
     record {
       absent = λ c. refl;
-      given = λ c bytes other. ap counted (reads-alike c.strict bytes other);
-      shorter = λ c a b strict. rw strict (ap counted (zero-in-front a b));
+      given = λ c bytes other. reads-alike c.strict bytes other;
+      shorter = λ c a b strict. rw strict (zero-in-front a b);
     }
 
 -- both make a num within plain mode's limit, and neither one above strict mode's
@@ -86,10 +81,10 @@ unfolding made
 made-beyond strict num more size h =
     rw (lt-ltb (num_limit strict) num (omega (arith, limit-most strict)), lt-ltb (num_limit false) num (omega (arith, limit-most false)))
 
-agreed-plainly : (c : Config) (b : MaybeBlock) (bare p : ℕ) → (OnlyStrictMakes c b bare → ⊥) → negotiated c b bare p ≡ negotiated (plainly c) b bare p
+agreed-plainly : (c : Config) (b : Option BlockValue) (bare p : ℕ) → (OnlyStrictMakes c b bare → ⊥) → negotiated c b bare p ≡ negotiated (plainly c) b bare p
 unfolding negotiated within reply_at num_limit
-agreed-plainly c Absent bare p only = rw (made-near c.strict 0 true (room_of c bare) (omega arith))
-agreed-plainly c (Given b) bare p only =
+agreed-plainly c None bare p only = rw (made-near c.strict 0 true (room_of c bare) (omega arith))
+agreed-plainly c (Some b) bare p only =
     by_cases (eqb g 0) (λ z. rw z)
     (λ z.
     by_cases (ltb 65535 num)
@@ -100,7 +95,7 @@ agreed-plainly c (Given b) bare p only =
     (λ low. rw (made-near c.strict num (ltb (block_start b + g) p) g (ltb-false 65535 num low))))
   where
     g : ℕ
-    g = granted (Given b) (room_of c bare)
+    g = granted (Some b) (room_of c bare)
 
     num : ℕ
     num = block_start b / g
@@ -111,55 +106,55 @@ module _ (c : Config) (home away : ℕ) (s : BlockState) (u : List ℕ) (r : Req
   abbrev p : ℕ
   p = length r.payload
 
-  abbrev block2 : MaybeBlock
+  abbrev block2 : Option BlockValue
   block2 = request_block c r.block2
 
   abbrev step : Left
   step = step_request c home away s u r
 
-  pub step-unagreed : (n : ℕ) → request_agrees c r ≡ agreed.Refused n → step ≡ left s u (Refused n)
+  pub step-unagreed : (n : Refusal) → request_agrees c r ≡ Err n → step ≡ left s u (Refused n)
   unfolding step_request
   step-unagreed n e = steps.step-refused c home away s u block2 r.payload (request_block c r.block1) (request_agrees c r) n e
 
   -- block b was agreed on
-  module _ (b reply : BlockValue) (given : request_block c r.block1 ≡ Given b) (reached : request_agrees c r ≡ agreed.Block reply) where
-    goes_on : (t : Taken) → taken c s.assembled b p ≡ t
+  module _ (b reply : BlockValue) (given : request_block c r.block1 ≡ Some b) (reached : request_agrees c r ≡ Ok (Some reply)) where
+    goes_on : (t : Result Taken Refusal) → taken c s.assembled b p ≡ t
         → step ≡ on_taken home away s (piece_taken c s.assembled u b r.payload t) block2 b.size_exponent reply t
     unfolding step_request
     goes_on t e = steps.step_given c home away s u block2 r.payload (request_block c r.block1) (request_agrees c r) reply reached b t given (sym e)
 
-    pub step-bad : (c.strict && bad_form b p) ≡ true → step ≡ left s u (Refused 10)
-    step-bad bad = goes_on (block.Refused 10) (taken-bad c s.assembled b p bad)
+    pub step-bad : (c.strict && bad_form b p) ≡ true → step ≡ left s u (Refused BadForm)
+    step-bad bad = goes_on (Err BadForm) (taken-bad c s.assembled b p bad)
 
     module _ (good : (c.strict && bad_form b p) ≡ false) where
-      pub step-astray : (c.strict && not_next s.assembled b) ≡ true → step ≡ left s u (Refused 9)
-      step-astray away-from = goes_on (block.Refused 9) (taken-not-next c s.assembled b p good away-from)
+      pub step-astray : (c.strict && not_next s.assembled b) ≡ true → step ≡ left s u (Refused NotNext)
+      step-astray away-from = goes_on (Err NotNext) (taken-not-next c s.assembled b p good away-from)
 
       -- both checks let it pass, and it meets l bytes
       module _ (next : (c.strict && not_next s.assembled b) ≡ false) (l : ℕ) (met : length_met c.strict s.assembled b ≡ l) where
-        abbrev spliced : Splice
+        abbrev spliced : Result ℕ Refusal
         spliced = splice_of c.upload l (block_start b) (block_size b) p
 
-        is-taken : (x : Splice) → spliced ≡ x → taken c s.assembled b p ≡ taken_as b.more x
+        is-taken : (x : Result ℕ Refusal) → spliced ≡ x → taken c s.assembled b p ≡ taken_as b.more x
         is-taken x e =
             let meeting : splice_of c.upload (length_met c.strict s.assembled b) (block_start b) (block_size b) p ≡ x = rw met e in
             taken_next c s.assembled b p good next ∙ ap (taken_as b.more) meeting
 
-        pub step-unspliced : (n : ℕ) → spliced ≡ splice.Refused n → step ≡ left s u (Refused n)
-        step-unspliced n e = goes_on (block.Refused n) (is-taken (splice.Refused n) e)
+        pub step-unspliced : (n : Refusal) → spliced ≡ Err n → step ≡ left s u (Refused n)
+        step-unspliced n e = goes_on (Err n) (is-taken (Err n) e)
 
         -- it is spliced: the body has n bytes, and stands in the piece v
-        module _ (n : ℕ) (v : List ℕ) (body : spliced ≡ splice.Body n) (piece : piece_after u l (block_start b) (block_size b) r.payload ≡ v) where
+        module _ (n : ℕ) (v : List ℕ) (body : spliced ≡ Ok n) (piece : piece_after u l (block_start b) (block_size b) r.payload ≡ v) where
           pub step-more : b.more ≡ true → step ≡ left (with_assembled s (assembly n b.size_exponent)) v (Continue reply)
-          step-more more = goes_on (block.More n) (is-taken (splice.Body n) body ∙ rw more) ∙ rw (met, piece)
+          step-more more = goes_on (Ok (block.More n)) (is-taken (Ok n) body ∙ rw more) ∙ rw (met, piece)
 
           -- the body is complete, and Block2 follows
-          pub step-body : b.more ≡ false → step ≡ onward away (with_assembled s (assembly 0 0)) v block2 (Given reply) (Handed reply (bytes_from home n))
-          step-body last = goes_on (block.Body n) (is-taken (splice.Body n) body ∙ rw last) ∙ rw (met, piece)
+          pub step-body : b.more ≡ false → step ≡ onward away (with_assembled s (assembly 0 0)) v block2 (Some reply) (Handed reply (bytes_from home n))
+          step-body last = goes_on (Ok (block.Body n)) (is-taken (Ok n) body ∙ rw last) ∙ rw (met, piece)
 
-          pub step-last : b.more ≡ false → block2 ≡ Absent → step ≡ left (with_recorded (with_assembled s (assembly 0 0)) Absent) v (Handed reply (bytes_from home n))
+          pub step-last : b.more ≡ false → block2 ≡ None → step ≡ left (with_recorded (with_assembled s (assembly 0 0)) None) v (Handed reply (bytes_from home n))
           step-last last alone =
-              step-body last ∙ onward-absent away (with_assembled s (assembly 0 0)) v block2 (Given reply) (Handed reply (bytes_from home n)) alone ∙ rw alone
+              step-body last ∙ onward-absent away (with_assembled s (assembly 0 0)) v block2 (Some reply) (Handed reply (bytes_from home n)) alone ∙ rw alone
 
   -- ---- the mode
 
@@ -179,28 +174,28 @@ module _ (c : Config) (home away : ℕ) (s : BlockState) (u : List ℕ) (r : Req
         ∙ ap (λ (l : ℕ). taken_as b.more (splice_of c.upload l (block_start b) (block_size b) p)) met-same
         ∙ sym (taken_next (plainly c) s.assembled b p refl refl)
 
-    piece-same : (t : Taken) → piece_taken c s.assembled u b r.payload t ≡ piece_taken (plainly c) s.assembled u b r.payload t
-    piece-same (block.Refused n) = refl
-    piece-same (block.More n) = rw met-same
-    piece-same (block.Body n) = rw met-same
+    piece-same : (t : Result Taken Refusal) → piece_taken c s.assembled u b r.payload t ≡ piece_taken (plainly c) s.assembled u b r.payload t
+    piece-same (Err n) = refl
+    piece-same (Ok (block.More n)) = rw met-same
+    piece-same (Ok (block.Body n)) = rw met-same
 
     given-same : block1_given c home away s u block2 r.payload b reply ≡ block1_given (plainly c) home away s u block2 r.payload b reply
     unfolding block1_given
     given-same =
-        let t : Taken = taken (plainly c) s.assembled b p in
+        let t : Result Taken Refusal = taken (plainly c) s.assembled b p in
         rw taken-same (ap (λ (v : List ℕ). on_taken home away s v block2 b.size_exponent reply t) (piece-same t))
 
-  on_same : (block1 : MaybeBlock) (n : Negotiated) → ((b : BlockValue) → block1 ≡ Given b → Unchecked b)
+  on_same : (block1 : Option BlockValue) (n : Result (Option BlockValue) Refusal) → ((b : BlockValue) → block1 ≡ Some b → Unchecked b)
       → on_negotiated c home away s u block2 r.payload block1 n ≡ on_negotiated (plainly c) home away s u block2 r.payload block1 n
   unfolding on_negotiated
-  on_same block1 (agreed.Refused n) unchecked = refl
-  on_same block1 agreed.NoBlock unchecked = refl
-  on_same Absent (agreed.Block reply) unchecked = refl
-  on_same (Given b) (agreed.Block reply) unchecked = given-same b reply (unchecked b refl)
+  on_same block1 (Err n) unchecked = refl
+  on_same block1 (Ok None) unchecked = refl
+  on_same None (Ok (Some reply)) unchecked = refl
+  on_same (Some b) (Ok (Some reply)) unchecked = given-same b reply (unchecked b refl)
 
   -- then the step is plain mode's
   pub step-plainly : (q : Request) → SaysTheSame c r q → (OnlyStrictMakes c (request_block c r.block1) r.bare → ⊥)
-      → ((b : BlockValue) → request_block c r.block1 ≡ Given b → Unchecked b) → step ≡ step_request (plainly c) home away s u q
+      → ((b : BlockValue) → request_block c r.block1 ≡ Some b → Unchecked b) → step ≡ step_request (plainly c) home away s u q
   unfolding step_request
   step-plainly q same made unchecked =
       rw (same.block1, same.block2, same.bare, same.payload, ← agreed-plainly c (request_block c r.block1) r.bare p made)
@@ -209,21 +204,21 @@ module _ (c : Config) (home away : ℕ) (s : BlockState) (u : List ℕ) (r : Req
 -- ---- a response's step
 
 module _ (c : Config) (s : BlockState) (d : List ℕ) (r : Response) where
-  pub response-unagreed : r.own ≡ false → (n : ℕ) → negotiated c (recorded_block s.recorded) r.bare (length r.payload) ≡ agreed.Refused n
+  pub response-unagreed : r.own ≡ false → (n : Refusal) → negotiated c (recorded_block s.recorded) r.bare (length r.payload) ≡ Err n
       → step_response c s d r ≡ left s d (Refused n)
   unfolding step_response on_reply
   response-unagreed own n e = rw (own, e)
 
-  chunk-same : (ch : Chunk) → chunked c s d r.head r.payload ch ≡ chunked (plainly c) s d r.head r.payload ch
+  chunk-same : (ch : Result Chunk Refusal) → chunked c s d r.head r.payload ch ≡ chunked (plainly c) s d r.head r.payload ch
   unfolding chunked
-  chunk-same (chunk.Refused n) = refl
-  chunk-same (chunk.Bytes b from to) = refl
+  chunk-same (Err n) = refl
+  chunk-same (Ok k) = refl
 
-  reply-same : (n : Negotiated) → on_reply c s d r.head r.payload n ≡ on_reply (plainly c) s d r.head r.payload n
+  reply-same : (n : Result (Option BlockValue) Refusal) → on_reply c s d r.head r.payload n ≡ on_reply (plainly c) s d r.head r.payload n
   unfolding on_reply
-  reply-same (agreed.Refused n) = refl
-  reply-same agreed.NoBlock = refl
-  reply-same (agreed.Block b) = chunk-same _
+  reply-same (Err n) = refl
+  reply-same (Ok None) = refl
+  reply-same (Ok (Some b)) = chunk-same _
 
   -- and so for it
   pub response-plainly : (r.own ≡ false → OnlyStrictMakes c (recorded_block s.recorded) r.bare → ⊥) → step_response c s d r ≡ step_response (plainly c) s d r

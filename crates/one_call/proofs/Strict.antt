@@ -1,29 +1,27 @@
 -- STRICT MODE SAYS NO, AND YES. Assumes nothing.
+use Rattle.refusal.specs.Numbers.{refusal_number}
+use Rattle.std.specs.Prelude.{Option, Some, None, Ok}
 use Prim.Native.Nat.{ℕ, ◌+◌, ◌*◌, ◌≤◌, ◌<◌}
 use mathlib.Core.Bool.{true, false, false≢true, ◌&&◌}
 use mathlib.Core.Path.{◌≡◌, refl, ◌∙◌, ap}
 use mathlib.Core.Logic.{◌⊎◌, inl, inr, ⊎_elim}
 use mathlib.Core.List.{List}
-use mathlib.Core.Option.{Option, none as no-option, some}
 use native.Mathlib.Omega.{arith}
 use lib.ListN.{length}
 use lib.Dec.{eqb}
 use borrow.Author.Tests.{eqb-true, eqb-false, ne_eqb}
+use Rattle.refusal.specs.declared.Refusal.{Refusal}
+use Rattle.refusal.specs.declared.Refusal.TheVariants.{NotNext, BadForm, PastTheEnd, Jump, NoRoom}
 use Rattle.pieces.specs.Memory.{piece_of}
 use Rattle.pieces.proofs.Tests.{and_left, and_right, by_cases, refute}
 use Rattle.splicing.specs.Splice.{spliced_length, splice_of, piece_after}
-use Rattle.splicing.specs.declared.Splice.TheVariants as splice
 use Rattle.splicing.proofs.Splicing as splicing
 use Rattle.block_value.specs.Value.{block_size, block_start}
 use Rattle.block_value.proofs.Laws.{size-least, size-most}
 use Rattle.block_option.specs.Option.{read_of}
-use Rattle.block_option.specs.declared.Reading.{Reading}
-use Rattle.block_option.specs.declared.Reading.TheVariants.{Value, Unreadable}
 use Rattle.block_option.proofs.Laws.{read-exponent}
 use Rattle.block_value.specs.declared.BlockValue.{BlockValue}
-use Rattle.negotiation.specs.Negotiation.{counted, request_block}
-use Rattle.negotiation.specs.declared.MaybeBlock.TheVariants.{Absent, Given}
-use Rattle.negotiation.specs.declared.Negotiated.TheVariants as agreed
+use Rattle.negotiation.specs.Negotiation.{request_block}
 use Rattle.config.specs.declared.Config.{Config}
 use Rattle.block_state.specs.declared.Assembled.{Assembled}
 use Rattle.block_state.specs.declared.BlockState.{BlockState}
@@ -60,7 +58,7 @@ use Rattle.one_call.proofs.Refusals.{same_number, of-refusal}
 
 -- ---- what the two tests say
 
-good-is : (c : Config) (l : Assembled) (r : Request) (b : BlockValue) → request_block c r.block1 ≡ Given b → b.size_exponent ≤ 7
+good-is : (c : Config) (l : Assembled) (r : Request) (b : BlockValue) → request_block c r.block1 ≡ Some b → b.size_exponent ≤ 7
     → bad_form b (length r.payload) ≡ false → not_next l b ≡ false → RightlyTaken c l r b
 good-is c l r b given e7 good passed =
     let p : ℕ = length r.payload in
@@ -80,14 +78,10 @@ good-is c l r b given e7 good passed =
     at_most over = omega (arith, over)
 
 -- an exponent that was read is three bits
-exponent-read : (c : Config) (o : Option (List ℕ)) (b : BlockValue) → request_block c o ≡ Given b → b.size_exponent ≤ 7
+exponent-read : (c : Config) (o : Option (List ℕ)) (b : BlockValue) → request_block c o ≡ Some b → b.size_exponent ≤ 7
 unfolding request_block
-exponent-read c no-option b e = let z : ◌≡◌ {A = ℕ} 0 1 = cc in absurd (omega arith)
-exponent-read c (some bytes) b e = of (read_of c.strict bytes) refl e
-  where
-    of : (r : Reading) → read_of c.strict bytes ≡ r → counted r ≡ Given b → b.size_exponent ≤ 7
-    of (Value v) is same = let z : v ≡ b = cc in rw (← z) (read-exponent c.strict bytes v is)
-    of Unreadable is same = let z : ◌≡◌ {A = ℕ} 0 1 = cc in absurd (omega arith)
+exponent-read c None b e = let z : ◌≡◌ {A = ℕ} 0 1 = cc in absurd (omega arith)
+exponent-read c (Some bytes) b e = read-exponent c.strict bytes b e
 
 -- ---- a block that was taken
 
@@ -116,17 +110,17 @@ taken-rightly c w q r strict e =
 -- ---- a block that is refused
 
 module _ (c : Config) (w : World) (q : Call) (r : Request) (b : BlockValue) (strict : c.strict ≡ true) (g : PassesFive c w q r b) where
-  reached : request_agrees c r ≡ agreed.Block g.reply
+  reached : request_agrees c r ≡ Ok (Some g.reply)
   reached = rw g.given g.agreed
 
-  refuses-ten : BadlyFormed b (length r.payload) → RefusesTo 10 call c w q
+  refuses-ten : BadlyFormed b (length r.payload) → RefusesTo BadForm call c w q
   refuses-ten bad =
-      refused-touches c w q g.placed r g.asks 10 (step-bad c _ _ _ _ r b g.reply g.given reached (rw (strict, bad-is b (length r.payload) bad)))
+      refused-touches c w q g.placed r g.asks BadForm (step-bad c _ _ _ _ r b g.reply g.given reached (rw (strict, bad-is b (length r.payload) bad)))
 
-  refuses-nine : (BadlyFormed b (length r.payload) → ⊥) → Misplaced (assembled_for c w q) b → RefusesTo 9 call c w q
+  refuses-nine : (BadlyFormed b (length r.payload) → ⊥) → Misplaced (assembled_for c w q) b → RefusesTo NotNext call c w q
   refuses-nine well m =
       let good : (c.strict && bad_form b (length r.payload)) ≡ false = and_none c.strict _ (bad-not b (length r.payload) well) in
-      refused-touches c w q g.placed r g.asks 9
+      refused-touches c w q g.placed r g.asks NotNext
       (step-astray c _ _ _ _ r b g.reply g.given reached good (rw (strict, misplaced-is (assembled_for c w q) b m)))
 
 -- ---- 10 and 9 only then
@@ -136,40 +130,47 @@ module _ (c : Config) (w : World) (q : Call) (r : Request) (asks : q.what ≡ re
   l = assembled_for c w q
 
   abbrev Ten : Type 0
-  Ten = (c.strict ≡ true) × (b : BlockValue) × (request_block c r.block1 ≡ Given b) × BadlyFormed b (length r.payload)
+  Ten = (c.strict ≡ true) × (b : BlockValue) × (request_block c r.block1 ≡ Some b) × BadlyFormed b (length r.payload)
 
   abbrev Nine : Type 0
-  Nine = (c.strict ≡ true) × (b : BlockValue) × (request_block c r.block1 ≡ Given b) × (BadlyFormed b (length r.payload) → ⊥) × Misplaced l b
+  Nine = (c.strict ≡ true) × (b : BlockValue) × (request_block c r.block1 ≡ Some b) × (BadlyFormed b (length r.payload) → ⊥) × Misplaced l b
 
   module _ (home away : ℕ) (s : BlockState) (u : List ℕ) (its : s.assembled ≡ l) where
-    why-ten : (n : ℕ) → Why c home away s u r n → n ≡ 10 → Ten
-    why-ten n (unagreed m e) z = absurd (⊎_elim (λ (y : m ≡ 4). omega arith) (λ (y : m ≡ 5). omega arith) (refusal-number c _ _ _ m e))
+    why-ten : (n : Refusal) → Why c home away s u r n → refusal_number n ≡ 10 → Ten
+    why-ten n (unagreed m e) z = absurd (⊎_elim (λ (y : refusal_number m ≡ 4). omega arith) (λ (y : refusal_number m ≡ 5). omega arith) (refusal-number c _ _ _ m e))
     why-ten n (badly b reply given e y) z = (and_left _ _ y, b, given, bad-as b (length r.payload) (and_right c.strict _ y))
     why-ten n (astray b reply given e f y) z = absurd (omega arith)
-    why-ten n (unspliced m e) z = absurd (⊎_elim (λ (y : m ≡ 6). omega arith) (λ (y : m ≡ 7). omega arith) e)
+    why-ten n (unspliced m e) z =
+        absurd (⊎_elim (λ y. let k : refusal_number m ≡ 6 = ap refusal_number y in omega arith) (λ y. let k : refusal_number m ≡ 7 = ap refusal_number y in omega arith) e)
 
-    why-nine : (n : ℕ) → Why c home away s u r n → n ≡ 9 → Nine
-    why-nine n (unagreed m e) z = absurd (⊎_elim (λ (y : m ≡ 4). omega arith) (λ (y : m ≡ 5). omega arith) (refusal-number c _ _ _ m e))
+    why-nine : (n : Refusal) → Why c home away s u r n → refusal_number n ≡ 9 → Nine
+    why-nine n (unagreed m e) z = absurd (⊎_elim (λ (y : refusal_number m ≡ 4). omega arith) (λ (y : refusal_number m ≡ 5). omega arith) (refusal-number c _ _ _ m e))
     why-nine n (badly b reply given e y) z = absurd (omega arith)
     why-nine n (astray b reply given e f y) z =
         let strict : c.strict ≡ true = and_left _ _ y in
         let well : bad_form b (length r.payload) ≡ false = rw strict at f in
         (strict, b, given, not-bad b (length r.payload) well, rw its at (misplaced-as s.assembled b (and_right c.strict _ y)))
-    why-nine n (unspliced m e) z = absurd (⊎_elim (λ (y : m ≡ 6). omega arith) (λ (y : m ≡ 7). omega arith) e)
+    why-nine n (unspliced m e) z =
+        absurd (⊎_elim (λ y. let k : refusal_number m ≡ 6 = ap refusal_number y in omega arith) (λ y. let k : refusal_number m ≡ 7 = ap refusal_number y in omega arith) e)
 
     -- a step that is refused, and not with 8, has its reason
-    reason : (P : Type 0) (n : ℕ) → (n ≡ 8 → ⊥) → ((m : ℕ) → Why c home away s u r m → m ≡ n → P) → (g : Left) → Outcome c home away s u r g → g.answer ≡ Refused n → P
+    reason : (P : Type 0) (n : Refusal) → (n ≡ PastTheEnd → ⊥) → ((m : Refusal) → Why c home away s u r m → m ≡ n → P) → (g : Left)
+        → Outcome c home away s u r g → g.answer ≡ Refused n → P
     reason P n no8 why = of-refusal c home away s u r n (λ g. P) (λ m z k. why m k z) (λ m z y t v k. absurd (no8 y))
 
-  ten-only : (call c w q).answer ≡ Refused 10 → Ten
+  ten-only : (call c w q).answer ≡ Refused BadForm → Ten
   ten-only =
-      answered (λ (a : Answer). a ≡ Refused 10 → Ten) c w q (λ n h e. let z : n ≡ 10 = same_number n 10 e in absurd (omega (arith, h.1))) r asks
-      (λ home away u g o. reason home away _ u refl Ten 10 (λ e. omega arith) (why-ten home away _ u refl) g o)
+      answered (λ (a : Answer). a ≡ Refused BadForm → Ten) c w q (λ n h e. let z = same_number n BadForm e in absurd (omega (arith, h.1))) r asks
+      (λ home away u g o.
+      let not_8 : BadForm ≡ PastTheEnd → ⊥ = λ e. let z : ◌≡◌ {A = ℕ} 10 8 = ap refusal_number e in omega arith in
+      reason home away _ u refl Ten BadForm not_8 (λ m k z. why-ten home away _ u refl m k (ap refusal_number z)) g o)
 
-  nine-only : (call c w q).answer ≡ Refused 9 → Nine
+  nine-only : (call c w q).answer ≡ Refused NotNext → Nine
   nine-only =
-      answered (λ (a : Answer). a ≡ Refused 9 → Nine) c w q (λ n h e. let z : n ≡ 9 = same_number n 9 e in absurd (omega (arith, h.1))) r asks
-      (λ home away u g o. reason home away _ u refl Nine 9 (λ e. omega arith) (why-nine home away _ u refl) g o)
+      answered (λ (a : Answer). a ≡ Refused NotNext → Nine) c w q (λ n h e. let z = same_number n NotNext e in absurd (omega (arith, h.1))) r asks
+      (λ home away u g o.
+      let not_8 : NotNext ≡ PastTheEnd → ⊥ = λ e. let z : ◌≡◌ {A = ℕ} 9 8 = ap refusal_number e in omega arith in
+      reason home away _ u refl Nine NotNext not_8 (λ m k z. why-nine home away _ u refl m k (ap refusal_number z)) g o)
 
 -- ---- strict mode says yes
 
@@ -219,10 +220,10 @@ module _ (c : Config) (w : World) (q : Call) (r : Request) (b : BlockValue) (str
   meets : length_met c.strict state.assembled b ≡ start
   meets = rw strict (meets-start state.assembled b passed)
 
-  body : splice_of c.upload start start (block_size b) p ≡ splice.Body (start + p)
+  body : splice_of c.upload start start (block_size b) p ≡ Ok (start + p)
   body =
       let long : spliced_length start start (block_size b) p ≡ start + p = omega arith in
-      splicing.taken c.upload start start (block_size b) p (omega (arith, size-most b.size_exponent)) (omega (arith, t.fits)) ∙ ap splice.Body long
+      splicing.taken c.upload start start (block_size b) p (omega (arith, size-most b.size_exponent)) (omega (arith, t.fits)) ∙ ap Ok long
 
   abbrev after : BlockState
   after = with_assembled state (assembly 0 0)
@@ -237,7 +238,7 @@ module _ (c : Config) (w : World) (q : Call) (r : Request) (b : BlockValue) (str
       (done.0, done.1 ∙ rw (ne_eqb (start + p) 0 (λ e. omega (arith, size-least b.size_exponent)), full))
 
   completes : b.more ≡ false
-      → step_request c home away state piece r ≡ onward away after then (request_block c r.block2) (Given t.five.reply) (Handed t.five.reply (bytes_from home (start + p)))
+      → step_request c home away state piece r ≡ onward away after then (request_block c r.block2) (Some t.five.reply) (Handed t.five.reply (bytes_from home (start + p)))
   completes =
       step-body c home away state piece r b t.five.reply t.five.given (reached c w q r b strict t.five) good (and_none c.strict _ passed) start meets
       (start + p) then body refl
@@ -245,7 +246,7 @@ module _ (c : Config) (w : World) (q : Call) (r : Request) (b : BlockValue) (str
   ends_it : b.more ≡ false → left_assembled call c w q ≡ record { len = 0; exponent = 0 }
   ends_it last = (called _ (completes last)).1 ∙ onward-assembled away after then _ _ _
 
-  takes-last : b.more ≡ false → (request_block c r.block2 ≡ Absent) ⊎ (state.cached.held ≡ false)
+  takes-last : b.more ≡ false → (request_block c r.block2 ≡ None) ⊎ (state.cached.held ≡ false)
       → (x : Part) × ((call c w q).answer ≡ Handed t.five.reply x)
   takes-last last uncached = (bytes_from home (start + p), (called _ (completes last)).0 ∙ onward-other away after then _ _ _ uncached)
 
@@ -274,7 +275,7 @@ limits-same c w q r p e same = rw (e, same.bare, same.payload)
 
 all-else : (c : Config) (w : World) (q : Call) (r p : Request) → q.what ≡ request r → SaysTheSame c r p
     → (OnlyStrictMakes c (request_block c r.block1) r.bare → ⊥)
-    → ((b : BlockValue) → request_block c r.block1 ≡ Given b → Fine (assembled_for c w q) (length r.payload) b) → call c w q ≡ call (plainly c) w (saying q p)
+    → ((b : BlockValue) → request_block c r.block1 ≡ Some b → Fine (assembled_for c w q) (length r.payload) b) → call c w q ≡ call (plainly c) w (saying q p)
 unfolding call call_at
 all-else c w q r p e same made f =
     rw (limits-plainly c w q, limits-same c w q r p e same, e, step-plainly c _ _ (opened_of c w q).state _ r p same made (λ b given. unchecked c _ _ _ _ r b (f b given)))

@@ -4,6 +4,7 @@ use mathlib.Core.Path.{◌≡◌, refl}
 use mathlib.Core.List.{List}
 use native.Mathlib.Omega.{arith}
 use lib.ListN.{length}
+use Rattle.refusal.specs.declared.Refusal.{Refusal}
 use Rattle.pieces.specs.Memory.{piece_of, put_piece}
 use Rattle.pieces.proofs.Memory.{piece-order, patch-self}
 use Rattle.pieces.proofs.Tests.{ands}
@@ -44,14 +45,14 @@ module _ (c : Config) (w : World) (q : Call) (g : Placed c w q) where
   unfolding within_limits
   made = let h = g.limits in call-placed c w q fits (key-within c w q g.limits) g.clock g.place (search ands)
 
-  pub refused-touches : (r : Request) → q.what ≡ request r → (n : ℕ)
+  pub refused-touches : (r : Request) → q.what ≡ request r → (n : Refusal)
       → step_request c (here * c.upload) (here * c.response) state piece r ≡ left state piece (Refused n) → RefusesTo n call c w q
   unfolding call_at piece_of put_piece
   refused-touches r e n step =
       let inside : here * c.upload + c.upload ≤ length w.upload = omega (arith, fits.upload, piece-order here 16 c.upload g.place) in
       rw (made, e, step, patch-self w.upload (here * c.upload) c.upload inside) (refl, refl)
 
-  pub response-touches : (r : Response) → q.what ≡ response r → (n : ℕ) → step_response c state page r ≡ left state page (Refused n) → RefusesTo n call c w q
+  pub response-touches : (r : Response) → q.what ≡ response r → (n : Refusal) → step_response c state page r ≡ left state page (Refused n) → RefusesTo n call c w q
   unfolding call_at piece_of put_piece
   response-touches r e n step =
       let inside : here * c.response + c.response ≤ length w.response = omega (arith, fits.response, piece-order here 16 c.response g.place) in

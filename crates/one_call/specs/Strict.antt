@@ -1,13 +1,10 @@
 -- STRICT MODE SAYS NO. Whatever the table, the memories and the call: in strict mode no block is taken unless it is well formed and, but for block 0,
 -- the next. And a block that passes checks 1 to 5 and is not gets 10 or 9, 10 before 9, and changes nothing but the touch. AND IT SAYS YES to every other one that fits its piece.
-use Rattle.std.specs.Prelude.{ℕ, ◌+◌, ◌≤◌, ◌<◌, Bool, true, false, ◌≡◌, ◌⊎◌, List, [], ◌∷◌, length}
-use Rattle.std.proofs.Math.Option.{none, some}
+use Rattle.std.specs.Prelude.{ℕ, ◌+◌, ◌≤◌, ◌<◌, Bool, true, false, ◌≡◌, ◌⊎◌, List, [], ◌∷◌, length, Option, Some, None, Ok}
+use Rattle.refusal.specs.declared.Refusal.TheVariants.{NotNext, BadForm}
 use Rattle.block_value.specs.Value.{block_size, block_start}
 use Rattle.block_value.specs.declared.BlockValue.{BlockValue}
 use Rattle.negotiation.specs.Negotiation.{request_block, negotiated}
-use Rattle.negotiation.specs.declared.MaybeBlock.{MaybeBlock}
-use Rattle.negotiation.specs.declared.MaybeBlock.TheVariants.{Absent, Given}
-use Rattle.negotiation.specs.declared.Negotiated.TheVariants.{Block}
 use Rattle.config.specs.declared.Config.{Config}
 use Rattle.config.specs.Mode.{num_limit}
 use Rattle.block_state.specs.declared.Assembled.{Assembled}
@@ -23,9 +20,9 @@ use Rattle.one_call.specs.Handler.{Handler, entry_at}
 use Rattle.one_call.specs.Touch.{Placed, RefusesTo}
 use Rattle.one_call.specs.Agreed.{recorded_for}
 
-abbrev pub is_given : MaybeBlock → Bool
-is_given Absent = false
-is_given (Given b) = true
+abbrev pub is_given : Option BlockValue → Bool
+is_given None = false
+is_given (Some b) = true
 
 -- The answer says that a block was taken: Continue, Handed, or a Served that carries Block1 too. (A refusal 8 may follow a body completed; it says nothing of it.)
 abbrev pub took_block : Answer → Bool
@@ -47,7 +44,7 @@ assembled_for c w q = (opened q.key (row_of c w q)).state.assembled
 
 pub record RightlyTaken (c : Config) (l : Assembled) (r : Request) (b : BlockValue) : Type 0 where
   -- b is the request's Block1 value.
-  pub given : request_block c r.block1 ≡ Given b
+  pub given : request_block c r.block1 ≡ Some b
   -- Its exponent is at most 6, its payload no longer than its size, and just as long if it is marked "more".
   pub exponent : b.size_exponent ≤ 6
   pub short : length r.payload ≤ block_size b
@@ -68,10 +65,10 @@ Misplaced l b = (b.num ≡ 0 → ⊥) × ((block_start b ≡ l.len → ⊥) ⊎ 
 -- A request with Block1 value b that passes checks 1 to 3 (`Placed`), and 4 and 5: a block is agreed on.
 pub record PassesFive (c : Config) (w : World) (q : Call) (r : Request) (b : BlockValue) : Type 0 where
   pub asks : q.what ≡ request r
-  pub given : request_block c r.block1 ≡ Given b
+  pub given : request_block c r.block1 ≡ Some b
   pub placed : Placed c w q
   pub reply : BlockValue
-  pub agreed : negotiated c (Given b) r.bare (length r.payload) ≡ Block reply
+  pub agreed : negotiated c (Some b) r.bare (length r.payload) ≡ Ok (Some reply)
 
 -- ---- All else
 
@@ -91,7 +88,7 @@ abbrev pub saying : Call → Request → Call
 saying q p = record { time = q.time; key = q.key; what = request p }
 
 -- The reply's num is one that only strict mode makes (document 02): above plain mode's limit, and not above strict mode's.
-abbrev pub OnlyStrictMakes : Config → MaybeBlock → ℕ → Type 0
+abbrev pub OnlyStrictMakes : Config → Option BlockValue → ℕ → Type 0
 OnlyStrictMakes c b bare =
     (granted b (room_of c bare) ≡ 0 → ⊥) × (num_limit false < num_for b (granted b (room_of c bare))) × (num_for b (granted b (room_of c bare)) ≤ num_limit true)
 
@@ -107,30 +104,30 @@ pub record StrictSaysNo (h : Handler) : Type 0 where
       → (b : BlockValue) × RightlyTaken c (assembled_for c w q) r b
   -- Badly formed: 10, misplaced or not. (So 10 stands before 9.)
   pub ten : (c : Config) (w : World) (q : Call) (r : Request) (b : BlockValue) → c.strict ≡ true → PassesFive c w q r b
-      → BadlyFormed b (length r.payload) → RefusesTo 10 h c w q
+      → BadlyFormed b (length r.payload) → RefusesTo BadForm h c w q
   -- And 10 only then, in strict mode.
-  pub ten_only : (c : Config) (w : World) (q : Call) (r : Request) → q.what ≡ request r → (h c w q).answer ≡ Refused 10
-      → (c.strict ≡ true) × (b : BlockValue) × (request_block c r.block1 ≡ Given b) × BadlyFormed b (length r.payload)
+  pub ten_only : (c : Config) (w : World) (q : Call) (r : Request) → q.what ≡ request r → (h c w q).answer ≡ Refused BadForm
+      → (c.strict ≡ true) × (b : BlockValue) × (request_block c r.block1 ≡ Some b) × BadlyFormed b (length r.payload)
   -- Well formed and misplaced: 9.
   pub nine : (c : Config) (w : World) (q : Call) (r : Request) (b : BlockValue) → c.strict ≡ true → PassesFive c w q r b
-      → (BadlyFormed b (length r.payload) → ⊥) → Misplaced (assembled_for c w q) b → RefusesTo 9 h c w q
+      → (BadlyFormed b (length r.payload) → ⊥) → Misplaced (assembled_for c w q) b → RefusesTo NotNext h c w q
   -- And 9 only then, in strict mode.
-  pub nine_only : (c : Config) (w : World) (q : Call) (r : Request) → q.what ≡ request r → (h c w q).answer ≡ Refused 9
-      → (c.strict ≡ true) × (b : BlockValue) × (request_block c r.block1 ≡ Given b) × (BadlyFormed b (length r.payload) → ⊥) × Misplaced (assembled_for c w q) b
+  pub nine_only : (c : Config) (w : World) (q : Call) (r : Request) → q.what ≡ request r → (h c w q).answer ≡ Refused NotNext
+      → (c.strict ≡ true) × (b : BlockValue) × (request_block c r.block1 ≡ Some b) × (BadlyFormed b (length r.payload) → ⊥) × Misplaced (assembled_for c w q) b
   -- "All else is as in plain mode": a request with no Block1 value or a fine one, and any response, is answered and leaves just what it does in plain mode, unless the
   -- reply's num is one that only strict mode makes.
   pub all_else : (c : Config) (w : World) (q : Call) (r p : Request) → q.what ≡ request r → SaysTheSame c r p
       → (OnlyStrictMakes c (request_block c r.block1) r.bare → ⊥)
-      → ((b : BlockValue) → request_block c r.block1 ≡ Given b → Fine (assembled_for c w q) (length r.payload) b) → h c w q ≡ h (plainly c) w (saying q p)
+      → ((b : BlockValue) → request_block c r.block1 ≡ Some b → Fine (assembled_for c w q) (length r.payload) b) → h c w q ≡ h (plainly c) w (saying q p)
   pub responses : (c : Config) (w : World) (q : Call) (r : Response) → q.what ≡ response r
       → (r.own ≡ false → OnlyStrictMakes c (recorded_for c w q) r.bare → ⊥) → h c w q ≡ h (plainly c) w q
 
 -- Which options both modes read alike: none, and every one that has not just three bytes. And one of three bytes that starts with a zero is read in strict mode as the other
 -- two are in plain mode.
 pub record ReadAlike : Type 0 where
-  pub absent : (c : Config) → request_block (plainly c) none ≡ request_block c none
-  pub given : (c : Config) (bytes : List ℕ) → (length bytes ≡ 3 → ⊥) → request_block (plainly c) (some bytes) ≡ request_block c (some bytes)
-  pub shorter : (c : Config) (a b : ℕ) → c.strict ≡ true → request_block (plainly c) (some (a ∷ b ∷ [])) ≡ request_block c (some (0 ∷ a ∷ b ∷ []))
+  pub absent : (c : Config) → request_block (plainly c) None ≡ request_block c None
+  pub given : (c : Config) (bytes : List ℕ) → (length bytes ≡ 3 → ⊥) → request_block (plainly c) (Some bytes) ≡ request_block c (Some bytes)
+  pub shorter : (c : Config) (a b : ℕ) → c.strict ≡ true → request_block (plainly c) (Some (a ∷ b ∷ [])) ≡ request_block c (Some (0 ∷ a ∷ b ∷ []))
 
 -- ---- And yes
 
@@ -154,5 +151,5 @@ pub record StrictSaysYes (h : Handler) : Type 0 where
       → left_assembled h c w q ≡ record { len = 0; exponent = 0 }
   -- And it is Handed with the value that was agreed on, where no response can be served: it has no Block2, or nothing is cached for its key.
   pub last : (c : Config) (w : World) (q : Call) (r : Request) (b : BlockValue) → c.strict ≡ true → (t : Takable c w q r b) → b.more ≡ false
-      → (request_block c r.block2 ≡ Absent) ⊎ ((opened q.key (row_of c w q)).state.cached.held ≡ false)
+      → (request_block c r.block2 ≡ None) ⊎ ((opened q.key (row_of c w q)).state.cached.held ≡ false)
       → (body : Part) × ((h c w q).answer ≡ Handed t.five.reply body)

@@ -1,4 +1,5 @@
 -- What a call does that has its place and then is refused: of any handler.
+use Rattle.refusal.specs.declared.Refusal.{Refusal}
 use Rattle.std.specs.Prelude.{ℕ, ◌≤◌, ◌<◌, true, ◌≡◌, length}
 use Rattle.config.specs.declared.Config.{Config}
 use Rattle.block_state.specs.declared.Answer.TheVariants.{Refused}
@@ -25,5 +26,5 @@ touched c w q =
     }
 
 -- The call gets this refusal, and changes nothing but the touch.
-abbrev pub RefusesTo : ℕ → Handler → Config → World → Call → Type 0
+abbrev pub RefusesTo : Refusal → Handler → Config → World → Call → Type 0
 RefusesTo n h c w q = ((h c w q).answer ≡ Refused n) × ((h c w q).world ≡ touched c w q)

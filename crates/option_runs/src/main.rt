@@ -1,7 +1,6 @@
 // Options at the edges: cut, found by number, asked of the table of lengths, and a great many. What is printed is compared with stdout.
 #![tactic(auto)]
 
-use message::{Found, Reading};
 use option_table::Length;
 
 // The number, and a space.
@@ -23,21 +22,21 @@ fn print_value(value: &[u8]) {
 
 // An option cut by a byte.
 fn cut() {
-    let Reading::Refused(number) = message::from_bytes(b"\x40\x01\x5d\x1f\xb1") else {
+    let Err(malformed) = message::from_bytes(b"\x40\x01\x5d\x1f\xb1") else {
         return;
     };
     io::write_all(1, b"cut refused-");
-    print_number(number as usize);
+    print_number(usize::from(u8::from(malformed)));
     io::write_all(1, b"\n");
 }
 
 // The n-th option of a number.
 fn find(message: &[u8], number: u16, n: usize) {
-    print_number(number as usize);
+    print_number(usize::from(number));
     print_number(n);
     match message::nth_option(message, 4, number, n) {
-        Found::At(value) => print_value(message::part_of(message, value)),
-        Found::Absent => {
+        Some(value) => print_value(message::part_of(message, value)),
+        None => {
             io::write_all(1, b"absent");
         }
     }
@@ -55,7 +54,7 @@ fn finds() {
 
 // Whether the table has a number, and lets its value have so many bytes.
 fn length(number: u16, len: usize) {
-    print_number(number as usize);
+    print_number(usize::from(number));
     print_number(len);
     match option_table::length_allowed(number, len) {
         Length::Unknown => {
@@ -81,21 +80,16 @@ fn lengths() {
 
 // A million bytes, all but four of them options of one byte each: far more than the stack could hold calls for. Its bare length, and where the payload starts.
 fn many_options() {
-    let mut message = many();
+    let mut message = buffers::zeros::<1000000>();
     message[0] = 64;
     message[1] = 1;
-    let Reading::Message(packet) = message::from_bytes(&message) else {
+    let Ok(packet) = message::from_bytes(&message) else {
         return;
     };
     io::write_all(1, b"999996 options ");
     print_number(message::bare(packet));
     print_number(packet.payload.from);
     io::write_all(1, b"\n");
-}
-
-// Memory that no proof has to write out.
-fn many() -> [u8; 1000000] {
-    [0u8; 1000000]
 }
 
 fn main() {

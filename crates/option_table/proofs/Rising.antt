@@ -1,15 +1,17 @@
 -- The numbers of the table strictly rise: one test over the whole table, which antt computes, and the law that makes of it the order of any
 -- two numbers. Assumes nothing.
-use mathlib.Core.Path.{◌≡◌, refl, ap}
+use mathlib.Core.Path.{◌≡◌, refl, sym, ap, ◌∙◌}
 use mathlib.Core.Bool.{Bool, true, ◌&&◌}
 use mathlib.Core.List.{List, [], ◌∷◌}
-use Prim.Native.Nat.{ℕ, zero, suc, ◌<◌}
+use Prim.Native.Nat.{ℕ, zero, suc, ◌+◌, ◌<◌}
 use native.Mathlib.Omega.{arith}
 use lib.Dec.{ltb}
-use lib.ListN.{length, get_or}
+use lib.ListN.{length, get_or, drop, length-drop}
+use lib.Seq.{get_or-drop}
+use Rattle.std.proofs.lemmas.List.{drop-map}
 use borrow.Author.Tests.{ltb-true}
 use Rattle.pieces.proofs.Tests.{both}
-use Rattle.option_table.specs.Options.{table, numbers}
+use Rattle.option_table.specs.Options.{Row, table, numbers}
 
 -- each number is above the one before it, and the first above `low`
 abbrev rising_from : ℕ → List ℕ → Bool
@@ -32,10 +34,10 @@ rises low (n ∷ l) t (suc i) (suc j) h below = rises n l (both (ltb low n) (ris
 pub rising : (i j : ℕ) → i < j → j < 19 → get_or (numbers table) i 0 < get_or (numbers table) j 0
 rising = rises 0 (numbers table) refl
 
--- so a number above all before place i, and below the one there, is not in the table
-pub not_there : (n i : ℕ) → ((k : ℕ) → k < i → get_or (numbers table) k 0 < n) → (i < 19 → n < get_or (numbers table) i 0) → (k : ℕ) → k < 19 → get_or (numbers table) k 0 ≡ n → ⊥
-not_there n i passed next k l e =
-    let from : k < i → ⊥ = λ h. omega (arith, passed k h, e) in
-    let to : i < k → ⊥ = λ h. omega (arith, next (omega arith), rising i k h l, e) in
-    let here : k ≡ i = omega arith in
-    omega (arith, next (omega arith), ap (λ (j : ℕ). get_or (numbers table) j 0) here, e)
+-- so a number below the one at a place is in no row from there on
+pub not_ahead : (n i : ℕ) → n < get_or (numbers table) i 0 → (k : ℕ) → k < length (drop i table) → get_or (numbers (drop i table)) k 0 ≡ n → ⊥
+not_ahead n i h k l e =
+    let far : i + k < 19 = omega (arith, length-drop i table) in
+    let number : get_or (numbers table) (i + k) 0 ≡ n = sym (get_or-drop i (numbers table) k 0) ∙ ap (λ (xs : List ℕ). get_or xs k 0) (drop-map (λ (r : Row). r.number) i table) ∙ e in
+    let here : k ≡ 0 → ⊥ = λ z. let same : i + k ≡ i = omega arith in omega (arith, h, ap (λ (j : ℕ). get_or (numbers table) j 0) same, number) in
+    omega (arith, h, rising i (i + k) (omega arith) far, number)

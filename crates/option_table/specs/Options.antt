@@ -1,6 +1,5 @@
 -- The options that RFC 7252, RFC 7641 and RFC 7959 register.
 use Rattle.std.specs.Prelude.{ℕ, cond, ◌&&◌, List, [], ◌∷◌, map, leb, eqb}
-use Rattle.option_table.specs.declared.Columns.{Columns}
 use Rattle.option_table.specs.declared.Length.{Length}
 use Rattle.option_table.specs.declared.Length.TheVariants.{Unknown, Allowed, NotAllowed}
 
@@ -47,15 +46,9 @@ look_up (r ∷ rest) number len = cond (eqb r.number number) (limited r.least r.
 unfoldable pub allowed_of : ℕ → ℕ → Length
 allowed_of = look_up table
 
--- The columns of a list of rows.
+-- A row, and the numbers of a list of rows, as the code has them.
+abbrev pub row_of : Row → ℕ × ℕ × ℕ
+row_of r = (r.number, r.least, r.most)
+
 abbrev pub numbers : List Row → List ℕ
 numbers = map (λ (r : Row). r.number)
-
-abbrev pub leasts : List Row → List ℕ
-leasts = map (λ (r : Row). r.least)
-
-abbrev pub mosts : List Row → List ℕ
-mosts = map (λ (r : Row). r.most)
-
-abbrev pub columns_of : List Row → Columns
-columns_of rows = record { numbers = numbers rows; least = leasts rows; most = mosts rows }

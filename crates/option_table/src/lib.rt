@@ -1,53 +1,51 @@
 // The CoAP options that RFC 7252, RFC 7641 and RFC 7959 register, and the lengths that a value may have.
 #![tactic(auto)]
 
-ghost use Rattle.std.specs.Prelude.{◌≡◌};
-ghost use Rattle.option_table.specs.Options.{table, columns_of, limited, allowed_of};
+ghost use Rattle.std.specs.Prelude.{◌≡◌, map};
+ghost use Rattle.option_table.specs.Options.{table, row_of, limited, allowed_of};
 
-// Whether a number is in the table, and a length within its limits.
-#[derive(Clone, Copy)]
+// Whether a number is in the table, and a length within its limits. Three answers with names of their own, which an Option<bool> would not have.
+#[derive(Clone, Copy, Debug, PartialEq, Eq)]
 pub enum Length {
     Unknown,
     Allowed,
     NotAllowed,
 }
 
-// The columns of the table: numbers, which rise, and the least and the most bytes of a value.
-const NUMBERS: [u16; 19] = [
-    1, 3, 4, 5, 6, 7, 8, 11, 12, 14, 15, 17, 20, 23, 27, 28, 35, 39, 60,
+// The table: each number, and the least and the most bytes of its value. The numbers rise.
+static TABLE: [(u16, usize, usize); 19] = [
+    (1, 0, 8), // If-Match
+    (3, 1, 255), // Uri-Host
+    (4, 1, 8), // ETag
+    (5, 0, 0), // If-None-Match
+    (6, 0, 3), // Observe
+    (7, 0, 2), // Uri-Port
+    (8, 0, 255), // Location-Path
+    (11, 0, 255), // Uri-Path
+    (12, 0, 2), // Content-Format
+    (14, 0, 4), // Max-Age
+    (15, 0, 255), // Uri-Query
+    (17, 0, 2), // Accept
+    (20, 0, 255), // Location-Query
+    (23, 0, 3), // Block2
+    (27, 0, 3), // Block1
+    (28, 0, 4), // Size2
+    (35, 1, 1034), // Proxy-Uri
+    (39, 1, 255), // Proxy-Scheme
+    (60, 0, 4), // Size1
 ];
 
-const LEAST: [u16; 19] = [0, 1, 1, 0, 0, 0, 0, 0, 0, 0, 0, 0, 0, 0, 0, 0, 1, 1, 0];
-
-const MOST: [u16; 19] = [
-    8, 255, 8, 0, 3, 2, 255, 255, 2, 4, 255, 2, 255, 3, 3, 4, 1034, 255, 4,
-];
-
-// The three columns, which are those of the table that the definitions speak of.
-#[derive(Clone, Copy)]
-struct Columns {
-    numbers: [u16; 19],
-    least: [u16; 19],
-    most: [u16; 19],
-}
-
-fn all_columns() -> Columns
-    ensures { result ≡ columns_of table }
+// The rows are those of the table that the definitions speak of.
+fn rows() -> &'static [(u16, usize, usize)]
+    ensures { result.now ≡ map row_of table }
 {
-    Columns {
-        numbers: NUMBERS,
-        least: LEAST,
-        most: MOST,
-    }
+    &TABLE
 }
 
-fn within(least: u16, most: u16, len: usize) -> Length
+fn within(least: usize, most: usize, len: usize) -> Length
     ensures { result ≡ limited least most len }
 {
-    if len < least as usize {
-        return Length::NotAllowed;
-    }
-    if len <= most as usize {
+    if least <= len && len <= most {
         Length::Allowed
     } else {
         Length::NotAllowed
@@ -58,19 +56,13 @@ fn within(least: u16, most: u16, len: usize) -> Length
 pub fn length_allowed(number: u16, len: usize) -> Length
     ensures { result ≡ allowed_of number len }
 {
-    let columns = all_columns();
-    let numbers = columns.numbers;
-    let least = columns.least;
-    let most = columns.most;
-    let mut i: usize = 0;
-    while i < 19 && numbers[i] < number {
-        i += 1;
+    for (registered, least, most) in rows() {
+        if number < *registered {
+            return Length::Unknown;
+        }
+        if number == *registered {
+            return within(*least, *most, len);
+        }
     }
-    if i == 19 {
-        return Length::Unknown;
-    }
-    if numbers[i] != number {
-        return Length::Unknown;
-    }
-    within(least[i], most[i], len)
+    Length::Unknown
 }

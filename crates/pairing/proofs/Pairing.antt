@@ -1,4 +1,6 @@
 -- EVERY PAIRING OF MESSAGE SIZE AND BLOCK SIZE. Assumes nothing.
+use Rattle.refusal.specs.Numbers.{refusal_number}
+use Rattle.std.specs.Prelude.{Option, Some, None, Result, Ok, Err}
 use Prim.Native.Nat.{ℕ, zero, suc, ◌+◌, ◌*◌, ◌/◌, ◌^◌, ◌≤◌, ◌<◌, min}
 use mathlib.Core.Bool.{Bool, true, false}
 use mathlib.Core.Path.{◌≡◌, refl, sym, ◌∙◌, ap}
@@ -8,6 +10,8 @@ use native.Mathlib.Omega.{arith}
 use lib.Dec.{ltb, leb, eqb}
 use lib.Pow.{pow-add, pow_mono}
 use borrow.Author.Tests.{ltb-true, ltb-false, leb-true, leb-false, eqb-true}
+use Rattle.refusal.specs.declared.Refusal.{Refusal}
+use Rattle.refusal.specs.declared.Refusal.TheVariants.{TooLargeToEncode, NoBlockValue}
 use Rattle.pieces.proofs.Tests.{by_cases, clash-of}
 use Rattle.config.specs.declared.Config.{Config}
 use Rattle.config.specs.Mode.{num_limit}
@@ -15,10 +19,6 @@ use Rattle.block_value.specs.Value.{largest_power, exponent_of, made, size_of, b
 use Rattle.block_value.specs.declared.BlockValue.{BlockValue}
 use Rattle.block_value.proofs.Laws.{size_is, size-least, size-most, exponent-size, made-zero, made-large, made-far, made-well}
 use Rattle.negotiation.specs.Negotiation.{negotiated, within, reply_of}
-use Rattle.negotiation.specs.declared.MaybeBlock.{MaybeBlock}
-use Rattle.negotiation.specs.declared.MaybeBlock.TheVariants.{Absent, Given}
-use Rattle.negotiation.specs.declared.Negotiated.{Negotiated}
-use Rattle.negotiation.specs.declared.Negotiated.TheVariants.{NoBlock, Block, Refused}
 use Rattle.negotiation.proofs.Laws.{reply-none, reply-made, no_room_lem, with-room, absent-fits, absent-large, given-at}
 use Rattle.pairing.specs.Pairing.{room_of, granted, num_for, more_for, Needed, Unmakeable, Pairing}
 
@@ -80,9 +80,9 @@ module _ (g : ℕ) (least : 1 ≤ g) where
 
 module _ (c : Config) (n : ℕ) (more : Bool) (g : ℕ) where
   -- the make, by its cases
-  data Came : Negotiated → Type 0 where
-    refused : (g ≡ 0) ⊎ (4096 ≤ g) ⊎ (num_limit c.strict < n) → Came (Refused 5)
-    block : 1 ≤ g → g < 4096 → n ≤ num_limit c.strict → Came (Block (record { num = n; more = more; size_exponent = exponent_of g }))
+  data Came : Result (Option BlockValue) Refusal → Type 0 where
+    refused : (g ≡ 0) ⊎ (4096 ≤ g) ⊎ (num_limit c.strict < n) → Came (Err NoBlockValue)
+    block : 1 ≤ g → g < 4096 → n ≤ num_limit c.strict → Came (Ok (Some (record { num = n; more = more; size_exponent = exponent_of g })))
 
   came : Came (reply_of (made c.strict n more g))
   came =
@@ -105,7 +105,7 @@ module _ (c : Config) (n : ℕ) (more : Bool) (g : ℕ) where
       zero-clash : (t : Bool) → eqb g 0 ≡ false → g ≡ 0 → ⊥
       zero-clash t z e = let w : eqb 0 0 ≡ false = rw e at z in absurd (clash-of true refl w)
 
-module _ (c : Config) (b : MaybeBlock) (bare p : ℕ) where
+module _ (c : Config) (b : Option BlockValue) (bare p : ℕ) where
   abbrev m : ℕ
   m = room_of c bare
 
@@ -113,83 +113,83 @@ module _ (c : Config) (b : MaybeBlock) (bare p : ℕ) where
   g = granted b m
 
   -- the negotiation, by its cases
-  data Out : Negotiated → Type 0 where
-    four : c.limit < bare + 12 → Out (Refused 4)
-    none : bare + 12 ≤ c.limit → (Needed b p m → ⊥) → Out NoBlock
-    answered : bare + 12 ≤ c.limit → Needed b p m → (y : Negotiated) → Came c (num_for b g) (more_for b p g) g y → Out y
+  data Out : Result (Option BlockValue) Refusal → Type 0 where
+    four : c.limit < bare + 12 → Out (Err TooLargeToEncode)
+    none : bare + 12 ≤ c.limit → (Needed b p m → ⊥) → Out (Ok None)
+    answered : bare + 12 ≤ c.limit → Needed b p m → (y : Result (Option BlockValue) Refusal) → Came c (num_for b g) (more_for b p g) g y → Out y
 
 came-given : (c : Config) (b : BlockValue) (p m : ℕ)
-    → Came c (block_start b / min (block_size b) m) (ltb (block_start b + min (block_size b) m) p) (min (block_size b) m) (within c (Given b) p m)
+    → Came c (block_start b / min (block_size b) m) (ltb (block_start b + min (block_size b) m) p) (min (block_size b) m) (within c (Some b) p m)
 came-given c b p m =
     let g : ℕ = min (block_size b) m in
     by_cases (eqb g 0)
-    (λ y. let e : g ≡ 0 = eqb-true g 0 y in rw (given-at c (Given b) p m b refl, reply-none c (block_start b) g p e) (refused (inl e)))
+    (λ y. let e : g ≡ 0 = eqb-true g 0 y in rw (given-at c (Some b) p m b refl, reply-none c (block_start b) g p e) (refused (inl e)))
     (λ z.
     let nz : g ≡ 0 → ⊥ = λ e. zero-not z e in
-    rw (given-at c (Given b) p m b refl, reply-made c (block_start b) g p nz) (came c (block_start b / g) (ltb (block_start b + g) p) g))
+    rw (given-at c (Some b) p m b refl, reply-made c (block_start b) g p nz) (came c (block_start b / g) (ltb (block_start b + g) p) g))
   where
     zero-not : {g : ℕ} → eqb g 0 ≡ false → g ≡ 0 → ⊥
     zero-not z e = let w : eqb 0 0 ≡ false = rw e at z in absurd (clash-of true refl w)
 
-out : (c : Config) (b : MaybeBlock) (bare p : ℕ) → Out c b bare p (negotiated c b bare p)
+out : (c : Config) (b : Option BlockValue) (bare p : ℕ) → Out c b bare p (negotiated c b bare p)
 out c b bare p =
     by_cases (ltb c.limit (bare + 12))
     (λ y. let h = ltb-true c.limit (bare + 12) y in rw (no_room_lem c b bare p h) (four h))
     (λ n. let h = ltb-false c.limit (bare + 12) n in rw (with-room c b bare p (room_of c bare) h refl) (rest b h))
   where
-    rest : (b : MaybeBlock) → bare + 12 ≤ c.limit → Out c b bare p (within c b p (room_of c bare))
-    rest Absent h =
+    rest : (b : Option BlockValue) → bare + 12 ≤ c.limit → Out c b bare p (within c b p (room_of c bare))
+    rest None h =
         by_cases (ltb p (room_of c bare))
-        (λ y. let l = ltb-true p (room_of c bare) y in rw (absent-fits c Absent p (room_of c bare) refl l) (none h (λ need. omega arith)))
+        (λ y. let l = ltb-true p (room_of c bare) y in rw (absent-fits c None p (room_of c bare) refl l) (none h (λ need. omega arith)))
         (λ n.
         let l = ltb-false p (room_of c bare) n in
-        rw (absent-large c Absent p (room_of c bare) refl l) (answered h l _ (came c 0 true (room_of c bare))))
-    rest (Given b) h = answered h tt _ (came-given c b p (room_of c bare))
+        rw (absent-large c None p (room_of c bare) refl l) (answered h l _ (came c 0 true (room_of c bare))))
+    rest (Some b) h = answered h tt _ (came-given c b p (room_of c bare))
 
 -- ---- the laws
 
-five-is-not-four : Refused 5 ≡ Refused 4 → ⊥
+five-is-not-four : ◌≡◌ {A = Result (Option BlockValue) Refusal} (Err NoBlockValue) (Err TooLargeToEncode) → ⊥
 five-is-not-four e = let z : ◌≡◌ {A = ℕ} 5 4 = cc in omega arith
 
-block-is-not : {A : Type 0} (r : BlockValue) (n : ℕ) → Block r ≡ Refused n → A
+block-is-not : {A : Type 0} (r : BlockValue) (n : Refusal) → ◌≡◌ {A = Result (Option BlockValue) Refusal} (Ok (Some r)) (Err n) → A
 block-is-not r n e = let z : ◌≡◌ {A = ℕ} 0 1 = cc in absurd (omega arith)
 
-none-is-not : {A : Type 0} (n : ℕ) → NoBlock ≡ Refused n → A
+none-is-not : {A : Type 0} (n : Refusal) → ◌≡◌ {A = Result (Option BlockValue) Refusal} (Ok None) (Err n) → A
 none-is-not n e = let z : ◌≡◌ {A = ℕ} 0 1 = cc in absurd (omega arith)
 
-none-is-no-block : {A : Type 0} (r : BlockValue) → NoBlock ≡ Block r → A
+none-is-no-block : {A : Type 0} (r : BlockValue) → ◌≡◌ {A = Result (Option BlockValue) Refusal} (Ok None) (Ok (Some r)) → A
 none-is-no-block r e = let z : ◌≡◌ {A = ℕ} 0 1 = cc in absurd (omega arith)
 
-refused-is-no-block : {A : Type 0} (r : BlockValue) (n : ℕ) → Refused n ≡ Block r → A
+refused-is-no-block : {A : Type 0} (r : BlockValue) (n : Refusal) → ◌≡◌ {A = Result (Option BlockValue) Refusal} (Err n) (Ok (Some r)) → A
 refused-is-no-block r n e = let z : ◌≡◌ {A = ℕ} 0 1 = cc in absurd (omega arith)
 
-module _ (c : Config) (b : MaybeBlock) (bare p : ℕ) where
+module _ (c : Config) (b : Option BlockValue) (bare p : ℕ) where
   abbrev room : ℕ
   room = room_of c bare
 
   abbrev gr : ℕ
   gr = granted b room
 
-  four-only : (y : Negotiated) → Out c b bare p y → y ≡ Refused 4 → c.limit < bare + 12
+  four-only : (y : Result (Option BlockValue) Refusal) → Out c b bare p y → y ≡ Err TooLargeToEncode → c.limit < bare + 12
   four-only y (four h) e = h
-  four-only y (none h n) e = none-is-not 4 e
+  four-only y (none h n) e = none-is-not TooLargeToEncode e
   four-only y (answered h n _ (refused u)) e = absurd (five-is-not-four e)
-  four-only y (answered h n _ (block l m o)) e = block-is-not _ 4 e
+  four-only y (answered h n _ (block l m o)) e = block-is-not _ TooLargeToEncode e
 
-  five-when : bare + 12 ≤ c.limit → Needed b p room → Unmakeable c b room → (y : Negotiated) → Out c b bare p y → y ≡ Refused 5
+  five-when : bare + 12 ≤ c.limit → Needed b p room → Unmakeable c b room → (y : Result (Option BlockValue) Refusal) → Out c b bare p y → y ≡ Err NoBlockValue
   five-when h need u y (four l) = absurd (omega arith)
   five-when h need u y (none l n) = absurd (n need)
   five-when h need u y (answered l n _ (refused v)) = refl
   five-when h need u y (answered l n _ (block a below d)) =
       absurd (⊎_elim (λ (e : gr ≡ 0). omega arith) (⊎_elim (λ (e : 4096 ≤ gr). omega arith) (λ (e : num_limit c.strict < num_for b gr). omega arith)) u)
 
-  five-only : (y : Negotiated) → Out c b bare p y → y ≡ Refused 5 → Unmakeable c b room
+  five-only : (y : Result (Option BlockValue) Refusal) → Out c b bare p y → y ≡ Err NoBlockValue → Unmakeable c b room
   five-only y (four h) e = absurd (five-is-not-four (sym e))
-  five-only y (none h n) e = none-is-not 5 e
+  five-only y (none h n) e = none-is-not NoBlockValue e
   five-only y (answered h n _ (refused u)) e = u
-  five-only y (answered h n _ (block l m o)) e = block-is-not _ 5 e
+  five-only y (answered h n _ (block l m o)) e = block-is-not _ NoBlockValue e
 
-  made-when : bare + 12 ≤ c.limit → Needed b p room → (Unmakeable c b room → ⊥) → (y : Negotiated) → Out c b bare p y → (r : BlockValue) × (y ≡ Block r)
+  made-when : bare + 12 ≤ c.limit → Needed b p room → (Unmakeable c b room → ⊥) → (y : Result (Option BlockValue) Refusal) → Out c b bare p y → (r : BlockValue) × (y ≡ Ok (Some r))
   made-when h need u y (four l) = absurd (omega arith)
   made-when h need u y (none l n) = absurd (n need)
   made-when h need u y (answered l n _ (refused v)) = absurd (u v)
@@ -204,10 +204,10 @@ module _ (c : Config) (b : MaybeBlock) (bare p : ℕ) where
     exponent : r.size_exponent ≡ exponent_of gr
     room-left : bare + 12 ≤ c.limit
 
-  comes : (r : BlockValue) (y : Negotiated) → Out c b bare p y → y ≡ Block r → Comes r
-  comes r y (four l) e = refused-is-no-block r 4 e
+  comes : (r : BlockValue) (y : Result (Option BlockValue) Refusal) → Out c b bare p y → y ≡ Ok (Some r) → Comes r
+  comes r y (four l) e = refused-is-no-block r TooLargeToEncode e
   comes r y (none l n) e = none-is-no-block r e
-  comes r y (answered l n _ (refused v)) e = refused-is-no-block r 5 e
+  comes r y (answered l n _ (refused v)) e = refused-is-no-block r NoBlockValue e
   comes r y (answered l n _ (block a below d)) e =
       let num : r.num ≡ num_for b gr = cc in
       let more : r.more ≡ more_for b p gr = cc in
@@ -215,38 +215,38 @@ module _ (c : Config) (b : MaybeBlock) (bare p : ℕ) where
       record { least = a; most = below; num = num; more = more; exponent = exponent; room-left = l }
 
 -- a negotiation is refused with 4 or 5
-pub refusal-number : (c : Config) (b : MaybeBlock) (bare p n : ℕ) → negotiated c b bare p ≡ Refused n → (n ≡ 4) ⊎ (n ≡ 5)
+pub refusal-number : (c : Config) (b : Option BlockValue) (bare p : ℕ) (n : Refusal) → negotiated c b bare p ≡ Err n → (refusal_number n ≡ 4) ⊎ (refusal_number n ≡ 5)
 refusal-number c b bare p n e = of _ (out c b bare p) e
   where
-    of : (y : Negotiated) → Out c b bare p y → y ≡ Refused n → (n ≡ 4) ⊎ (n ≡ 5)
-    of y (four h) e = let z : n ≡ 4 = cc in inl z
+    of : (y : Result (Option BlockValue) Refusal) → Out c b bare p y → y ≡ Err n → (refusal_number n ≡ 4) ⊎ (refusal_number n ≡ 5)
+    of y (four h) e = let z : n ≡ TooLargeToEncode = cc in inl (ap refusal_number z)
     of y (none h k) e = none-is-not n e
-    of y (answered h k _ (refused u)) e = let z : n ≡ 5 = cc in inr z
+    of y (answered h k _ (refused u)) e = let z : n ≡ NoBlockValue = cc in inr (ap refusal_number z)
     of y (answered h k _ (block l m o)) e = block-is-not _ n e
 
 -- a block that comes out was made: its num is within the mode's limit, and its exponent at most 7
-pub block_within : (c : Config) (b : MaybeBlock) (bare p : ℕ) (r : BlockValue) → negotiated c b bare p ≡ Block r → (r.num ≤ num_limit c.strict) × (r.size_exponent ≤ 7)
+pub block_within : (c : Config) (b : Option BlockValue) (bare p : ℕ) (r : BlockValue) → negotiated c b bare p ≡ Ok (Some r) → (r.num ≤ num_limit c.strict) × (r.size_exponent ≤ 7)
 block_within c b bare p r e = of _ (out c b bare p) e
   where
-    of : (y : Negotiated) → Out c b bare p y → y ≡ Block r → (r.num ≤ num_limit c.strict) × (r.size_exponent ≤ 7)
-    of y (four h) e = refused-is-no-block r 4 e
+    of : (y : Result (Option BlockValue) Refusal) → Out c b bare p y → y ≡ Ok (Some r) → (r.num ≤ num_limit c.strict) × (r.size_exponent ≤ 7)
+    of y (four h) e = refused-is-no-block r TooLargeToEncode e
     of y (none h k) e = none-is-no-block r e
-    of y (answered h k _ (refused u)) e = refused-is-no-block r 5 e
+    of y (answered h k _ (refused u)) e = refused-is-no-block r NoBlockValue e
     of y (answered h k _ (block l m o)) e =
         let num : num_for b (granted b (room_of c bare)) ≡ r.num = cc in
         let exponent : exponent_of (granted b (room_of c bare)) ≡ r.size_exponent = cc in
         (rw num at o, rw exponent at (exponent-7 (granted b (room_of c bare)) l m))
 
-granted-room : (b : MaybeBlock) (m : ℕ) → (granted b m ≤ m) × (16 ≤ m → 16 ≤ granted b m) × (m < 16 → granted b m ≡ m)
-granted-room Absent m = (omega arith, λ h. h, λ h. refl)
-granted-room (Given b) m = (omega arith, λ h. omega (arith, size-least b.size_exponent), λ h. omega (arith, size-least b.size_exponent))
+granted-room : (b : Option BlockValue) (m : ℕ) → (granted b m ≤ m) × (16 ≤ m → 16 ≤ granted b m) × (m < 16 → granted b m ≡ m)
+granted-room None m = (omega arith, λ h. h, λ h. refl)
+granted-room (Some b) m = (omega arith, λ h. omega (arith, size-least b.size_exponent), λ h. omega (arith, size-least b.size_exponent))
 
 pub pairing : Pairing
 pairing =
     record {
       four = λ c b bare p h. no_room_lem c b bare p h;
       four_only = λ c b bare p e. four-only c b bare p _ (out c b bare p) e;
-      no_block = λ c bare p h l. with-room c Absent bare p (room_of c bare) h refl ∙ absent-fits c Absent p (room_of c bare) refl l;
+      no_block = λ c bare p h l. with-room c None bare p (room_of c bare) h refl ∙ absent-fits c None p (room_of c bare) refl l;
       five = λ c b bare p h need u. five-when c b bare p h need u _ (out c b bare p);
       five_only = λ c b bare p e. five-only c b bare p _ (out c b bare p) e;
       made = λ c b bare p h need u. made-when c b bare p h need u _ (out c b bare p);
@@ -270,8 +270,8 @@ pairing =
           let pos : 0 < s = omega (arith, size-least b.size_exponent) in
           let nz : s ≡ 0 → ⊥ = λ e. omega arith in
           let full : min s (room_of c bare) ≡ s = omega arith in
-          with-room c (Given b) bare p (room_of c bare) (omega arith) refl
-          ∙ given-at c (Given b) p (room_of c bare) b refl
+          with-room c (Some b) bare p (room_of c bare) (omega arith) refl
+          ∙ given-at c (Some b) p (room_of c bare) b refl
           ∙ rw full (reply-made c (block_start b) s p nz
           ∙ rw (mul-div_cancel b.num pos)
           (ap reply_of (made-well c.strict b.num _ s nz b.size_exponent (sym (exponent-size b.size_exponent hx)) hx hn)));

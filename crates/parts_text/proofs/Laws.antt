@@ -9,9 +9,10 @@ use Rattle.pieces.specs.Memory.{Put}
 use Rattle.pieces.proofs.Puts.{put-length, put-none, put_then, put_as}
 use Rattle.message_format.specs.Format.{CoapOption, options, next_in, options_of}
 use Rattle.one_option.specs.Index.{counted, next_at}
-use Rattle.message_format.specs.declared.Next.{Next}
-use Rattle.message_format.specs.declared.Next.TheVariants.{Option, End, Malformed}
-use Rattle.message_format.proofs.Laws.{no-options, first-tells, options-end, options-bad}
+use Rattle.message_format.specs.Format.{Next, placed, an_option, no_more, no_form}
+use Rattle.message_format.specs.declared.OptionPlace.{OptionPlace}
+use Rattle.std.specs.Prelude.{Some, None, Ok, Err}
+use Rattle.message_format.proofs.Laws.{same-place, no-options, first-tells, options-end, options-bad}
 use Rattle.one_option.proofs.Laws.{at_bounds}
 use Rattle.parts_text.specs.Parts.{option_text, more_text, options_text}
 
@@ -21,31 +22,37 @@ use Rattle.parts_text.specs.Parts.{option_text, more_text, options_text}
 pub record Stands (at : ℕ) (next : Next) (number from to : ℕ) : Type 0 where
   pub start : ℕ
   pub end : ℕ
-  pub is : next ≡ Option number start end
+  pub is : next ≡ an_option number start end
   pub from_is : from ≡ at + start
   pub to_is : to ≡ at + end
 
-stands : (at : ℕ) (next : Next) (number from to : ℕ) → counted at next ≡ Option number from to → Stands at next number from to
-stands at (Option n f t) number from to e =
-    let is_number : n ≡ number = cc in
-    record { start = f; end = t; is = rw is_number; from_is = (cc); to_is = (cc) }
-stands at End number from to e = absurd (let z : ◌≡◌ {A = ℕ} 0 1 = cc in omega arith)
-stands at Malformed number from to e = absurd (let z : ◌≡◌ {A = ℕ} 0 1 = cc in omega arith)
+stands : (at : ℕ) (next : Next) (number from to : ℕ) → counted at next ≡ an_option number from to → Stands at next number from to
+stands at (Ok (Some o)) number from to e =
+    let place = same-place (placed o.number (at + o.from) (at + o.to)) (placed number from to) e in
+    record {
+      start = o.from;
+      end = o.to;
+      is = ap (λ (p : OptionPlace). an_option p.number o.from o.to) place;
+      from_is = ap (λ (p : OptionPlace). p.from) (sym place);
+      to_is = ap (λ (p : OptionPlace). p.to) (sym place);
+    }
+stands at (Ok None) number from to e = absurd (let z : ◌≡◌ {A = ℕ} 0 1 = cc in omega arith)
+stands at (Err _) number from to e = absurd (let z : ◌≡◌ {A = ℕ} 0 1 = cc in omega arith)
 
-ends : (at : ℕ) (next : Next) → counted at next ≡ End → next ≡ End
-ends at (Option n f t) e = absurd (let z : ◌≡◌ {A = ℕ} 0 1 = cc in omega arith)
-ends at End e = refl
-ends at Malformed e = absurd (let z : ◌≡◌ {A = ℕ} 0 1 = cc in omega arith)
+ends : (at : ℕ) (next : Next) → counted at next ≡ no_more → next ≡ no_more
+ends at (Ok (Some o)) e = absurd (let z : ◌≡◌ {A = ℕ} 0 1 = cc in omega arith)
+ends at (Ok None) e = refl
+ends at (Err _) e = absurd (let z : ◌≡◌ {A = ℕ} 0 1 = cc in omega arith)
 
-bad : (at : ℕ) (next : Next) → counted at next ≡ Malformed → next ≡ Malformed
-bad at (Option n f t) e = absurd (let z : ◌≡◌ {A = ℕ} 0 1 = cc in omega arith)
-bad at End e = absurd (let z : ◌≡◌ {A = ℕ} 0 1 = cc in omega arith)
-bad at Malformed e = refl
+bad : (at : ℕ) (next : Next) → counted at next ≡ no_form → next ≡ no_form
+bad at (Ok (Some o)) e = absurd (let z : ◌≡◌ {A = ℕ} 0 1 = cc in omega arith)
+bad at (Ok None) e = absurd (let z : ◌≡◌ {A = ℕ} 0 1 = cc in omega arith)
+bad at (Err _) e = refl
 
 module _ (bytes : List ℕ) (at before : ℕ) where
   module _ (list : List CoapOption) (left : List ℕ) (are : options_of before (drop at bytes) ≡ options list left) where
     -- the options are the one that stands there and those after it
-    pub option-first : (number from to : ℕ) → next_at bytes at before ≡ Option number from to
+    pub option-first : (number from to : ℕ) → next_at bytes at before ≡ an_option number from to
         → (more : List CoapOption) × (options_of number (drop to bytes) ≡ options more left) × (list ≡ record { number = number; value = take (to - from) (drop from bytes) } ∷ more)
     option-first number from to e =
         let s = stands at (next_in before (drop at bytes)) number from to e in
@@ -55,12 +62,12 @@ module _ (bytes : List ℕ) (at before : ℕ) where
         let long : s.end - s.start ≡ to - from = omega (arith, s.from_is, s.to_is) in
         (w.0, ap (options_of number) (sym after) ∙ w.1, w.2 ∙ (λ i. record { number = number; value = take (long i) (inside i) } ∷ w.0))
 
-    pub options-over : next_at bytes at before ≡ End → (list ≡ []) × (left ≡ drop at bytes)
+    pub options-over : next_at bytes at before ≡ no_more → (list ≡ []) × (left ≡ drop at bytes)
     options-over e =
         let o : options list left ≡ options [] (drop at bytes) = sym are ∙ options-end before (drop at bytes) (ends at (next_in before (drop at bytes)) e) in
         ((cc), cc)
 
-    pub options-broken : next_at bytes at before ≡ Malformed → ⊥
+    pub options-broken : next_at bytes at before ≡ no_form → ⊥
     options-broken e = no-options (sym (options-bad before (drop at bytes) (bad at (next_in before (drop at bytes)) e)) ∙ are)
 
 -- ---- the walk
@@ -79,7 +86,7 @@ pub walked_start : (out : List ℕ) (start : ℕ) (bytes : List ℕ) (list : Lis
 walked_start out start bytes list left first before h e = record { done = []; rest = list; written = put-none out start h; text = refl; are = e }
 
 module _ {out₀ : List ℕ} {start : ℕ} {bytes : List ℕ} {list : List CoapOption} {left out : List ℕ} {k at before : ℕ} (w : Walked out₀ start bytes list left out k at before) where
-  pub walked-turn : (number from to : ℕ) → next_at bytes at before ≡ Option number from to
+  pub walked-turn : (number from to : ℕ) → next_at bytes at before ≡ an_option number from to
       → {out₁ out₂ : List ℕ} {k₁ k₂ : ℕ} → Put out k (44 ∷ []) out₁ k₁ → Put out₁ k₁ (option_text number (take (to - from) (drop from bytes))) out₂ k₂
       → Walked out₀ start bytes list left out₂ k₂ to number
   unfolding more_text
@@ -94,14 +101,14 @@ module _ {out₀ : List ℕ} {start : ℕ} {bytes : List ℕ} {list : List CoapO
         are = o.1;
       }
 
-  pub walked-done : next_at bytes at before ≡ End → Put out₀ start (more_text list) out k × (length left ≡ length bytes - at)
+  pub walked-done : next_at bytes at before ≡ no_more → Put out₀ start (more_text list) out k × (length left ≡ length bytes - at)
   unfolding more_text
   walked-done e =
       let o = options-over bytes at before w.rest left w.are e in
       let all : w.done ≡ more_text list = sym (append-nil w.done) ∙ ap (λ (l : List CoapOption). w.done ++ more_text l) (sym o.0) ∙ w.text in
       (put_as w.written all, ap length o.1 ∙ length-drop at bytes)
 
-  pub walked-broken : next_at bytes at before ≡ Malformed → ⊥
+  pub walked-broken : next_at bytes at before ≡ no_form → ⊥
   walked-broken e = options-broken bytes at before w.rest left w.are e
 
 -- What holds at each turn: the room, and the walk if the options can be read.
@@ -119,7 +126,7 @@ pub value-length : (bytes : List ℕ) (from to : ℕ) → from ≤ to → to ≤
 value-length bytes from to h k = simp (length-take, length-drop) (omega arith)
 
 module _ {out₀ : List ℕ} {start : ℕ} {bytes : List ℕ} {first before : ℕ} {out : List ℕ} {k at last : ℕ} (w : Walking out₀ start bytes first before out k at last) where
-  pub walking-turn : (number from to : ℕ) → next_at bytes at last ≡ Option number from to
+  pub walking-turn : (number from to : ℕ) → next_at bytes at last ≡ an_option number from to
       → {out₁ out₂ : List ℕ} {k₁ k₂ : ℕ} → Put out k (44 ∷ []) out₁ k₁ → Put out₁ k₁ (option_text number (take (to - from) (drop from bytes))) out₂ k₂
       → k₂ ≤ k₁ + 2 * length (take (to - from) (drop from bytes)) + 7
       → Walking out₀ start bytes first before out₂ k₂ to number
@@ -133,20 +140,20 @@ module _ {out₀ : List ℕ} {start : ℕ} {bytes : List ℕ} {first before : �
       }
 
   module _ (list : List CoapOption) (left : List ℕ) (are : options_of before (drop first bytes) ≡ options list left) where
-    pub walking-done : next_at bytes at last ≡ End → Put out₀ start (more_text list) out k × (k + 8 * length left ≤ start + 8 * (length bytes - first))
+    pub walking-done : next_at bytes at last ≡ no_more → Put out₀ start (more_text list) out k × (k + 8 * length left ≤ start + 8 * (length bytes - first))
     walking-done e = let d = walked-done (w.walked list left are) e in (d.0, omega (arith, d.1, w.room))
 
-    pub walking-broken : next_at bytes at last ≡ Malformed → ⊥
+    pub walking-broken : next_at bytes at last ≡ no_form → ⊥
     walking-broken e = walked-broken (w.walked list left are) e
 
 -- ---- all options
 
 module _ (bytes : List ℕ) (first : ℕ) (list : List CoapOption) (left : List ℕ) (are : options_of 0 (drop first bytes) ≡ options list left) where
-  pub text-none : next_at bytes first 0 ≡ End → 45 ∷ [] ≡ options_text list
+  pub text-none : next_at bytes first 0 ≡ no_more → 45 ∷ [] ≡ options_text list
   unfolding options_text
   text-none e = let o = options-over bytes first 0 list left are e in rw o.0
 
-  pub text-some : (number from to : ℕ) → next_at bytes first 0 ≡ Option number from to
+  pub text-some : (number from to : ℕ) → next_at bytes first 0 ≡ an_option number from to
       → (more : List CoapOption) × (options_of number (drop to bytes) ≡ options more left) × (option_text number (take (to - from) (drop from bytes)) ++ more_text more ≡ options_text list)
   unfolding options_text
   text-some number from to e =

@@ -8,7 +8,7 @@ use Rattle.pieces.specs.Memory.{within}
 use Rattle.message_format.specs.Format.{Message, options, Meaning, malformed, means, payload_bytes, options_of, meaning_of}
 use Rattle.message.specs.Reader.{packet_of, reading_of, read_of}
 use Rattle.message.specs.declared.Packet.{Packet}
-use Rattle.message.specs.declared.Reading.TheVariants as reading
+use Rattle.std.specs.Prelude.{Ok}
 use Rattle.message.proofs.Shown.{parts, options-shown, token-shown, payload-shown}
 use Rattle.script_text.specs.Text.{shown}
 use Rattle.parts_text.specs.Parts.{options_text, parts_text}
@@ -42,10 +42,10 @@ module _ (bytes : List ℕ) (m : Message) (e : meaning_of bytes ≡ means m) whe
     payload-is = payload-shown bytes m e;
   }
 
-pub read-tells : (bytes : List ℕ) (packet : Packet) → read_of bytes ≡ reading.Message packet → (m : Message) × Read bytes packet m
+pub read-tells : (bytes : List ℕ) (packet : Packet) → read_of bytes ≡ Ok packet → (m : Message) × Read bytes packet m
 read-tells bytes packet e = go (meaning_of bytes) refl e
   where
-    go : (meaning : Meaning) → meaning_of bytes ≡ meaning → reading_of (length bytes) meaning ≡ reading.Message packet → (m : Message) × Read bytes packet m
+    go : (meaning : Meaning) → meaning_of bytes ≡ meaning → reading_of (length bytes) meaning ≡ Ok packet → (m : Message) × Read bytes packet m
     go malformed p q = absurd (let z : ◌≡◌ {A = ℕ} 0 1 = cc in omega arith)
     go (means m) p q = let same : packet_of (length bytes) m ≡ packet = cc in (m, rw same at (is_read bytes m p))
 

@@ -3,14 +3,14 @@
 
 mod options;
 
-ghost use Rattle.std.specs.Prelude.{◌≡◌, [], ◌∷◌, ◌++◌, ◌+◌, ◌*◌, ◌≤◌, length};
+ghost use Rattle.std.specs.Prelude.{◌≡◌, Ok, [], ◌∷◌, ◌++◌, ◌+◌, ◌*◌, ◌≤◌, length};
 ghost use Rattle.pieces.specs.Memory.{Put};
 ghost use Rattle.message_format.specs.Format.{Message, means, meaning_of};
 ghost use Rattle.message.specs.Reader.{read_of};
 ghost use Rattle.script_text.specs.Text.{shown};
 ghost use Rattle.parts_text.specs.Parts.{parts_text};
 
-use message::{Packet, Reading};
+use message::Packet;
 
 // Bytes as they are shown, and a byte behind them.
 fn put_closed(out: &mut [u8], at: usize, bytes: &[u8], end: u8) -> usize
@@ -24,7 +24,7 @@ fn put_closed(out: &mut [u8], at: usize, bytes: &[u8], end: u8) -> usize
 
 // The token, the options and the payload, and the line's end.
 pub fn put_parts(out: &mut [u8], at: usize, message: &[u8], packet: Packet) -> usize
-    requires message_value { read_of message.now ≡ Reading.Message packet }
+    requires message_value { read_of message.now ≡ Ok packet }
     requires message_in_bounds { at + 8 * length message.now ≤ length out.old }
     ensures put { (m : Message) → meaning_of message.now ≡ means m → Put out.old at (parts_text m) out.new result }
     ensures upper_bound { result ≤ at + 8 * length message.now }

@@ -4,15 +4,13 @@ ghost use Rattle.pieces.specs.Memory.{Put};
 ghost use Rattle.message_format.specs.Format.{options_of, CoapOption, options};
 ghost use Rattle.parts_text.specs.Parts.{option_text, more_text, options_text};
 
-use message::Next;
-
 // A number has five digits at most, though the room for any is asked.
 fn put_option(out: &mut [u8], at: usize, number: u16, value: &[u8]) -> usize
     requires { at + 2 * length value.now + 22 ≤ length out.old }
     ensures put { Put out.old at (option_text number value.now) out.new result }
     ensures upper_bound { result ≤ at + 2 * length value.now + 7 }
 {
-    let k = script_text::put_decimal(out, at, number as u64);
+    let k = script_text::put_decimal(out, at, u64::from(number));
     let k = pieces::put_byte(out, k, b':');
     script_text::put_shown(out, k, value)
 }
@@ -27,18 +25,13 @@ fn put_more(out: &mut [u8], start: usize, message: &[u8], first: usize, before: 
     let mut k = start;
     let mut at = first;
     let mut last = before;
-    loop {
-        match message::next_option(message, at, last) {
-            Next::Option { number, from, to } => {
-                let comma = pieces::put_byte(out, k, b',');
-                k = put_option(out, comma, number, &message[from..to]);
-                at = to;
-                last = number;
-            }
-            Next::End => return k,
-            Next::Malformed => return k,
-        }
+    while let Ok(Some(option)) = message::next_option(message, at, last) {
+        let comma = pieces::put_byte(out, k, b',');
+        k = put_option(out, comma, option.number, &message[option.from..option.to]);
+        at = option.to;
+        last = option.number;
     }
+    k
 }
 
 // All options of a message, from the index where they begin.
@@ -49,11 +42,11 @@ pub fn put_options(out: &mut [u8], start: usize, message: &[u8], first: usize) -
         → Put out.old start (options_text list) out.new result × (result + 8 * length left ≤ start + 8 * (length message.now - first) + 1) }
 {
     match message::next_option(message, first, 0) {
-        Next::Option { number, from, to } => {
-            let k = put_option(out, start, number, &message[from..to]);
-            put_more(out, k, message, to, number)
+        Ok(Some(option)) => {
+            let k = put_option(out, start, option.number, &message[option.from..option.to]);
+            put_more(out, k, message, option.to, option.number)
         }
-        Next::End => pieces::put_byte(out, start, b'-'),
-        Next::Malformed => start,
+        Ok(None) => pieces::put_byte(out, start, b'-'),
+        Err(_) => start,
     }
 }

@@ -7,9 +7,9 @@ use native.Mathlib.Nat.{add_assoc, add-zero, zero-add, suc-mul, mul-le-mul_right
 use native.Mathlib.Numerals.{add-one}
 use native.Mathlib.Omega.{arith}
 use lib.Dec.{ltb}
-use lib.ListN.{length, get_or, set, take, drop, length-append, length-take, length-drop, take-append-drop, drop_of_length-le}
-use lib.Seq.{take-take, take_at, drop_at, drop-drop, take-add, set_split, length-take-le, get_or-take, get_or-drop, drop-append-le, take-append-le}
-use borrow.Author.Tests.{ltb-true, ltb-false, le-leb, lt-leb}
+use lib.ListN.{length, set, take, drop, length-append, length-take, length-drop, take-append-drop, drop_of_length-le}
+use lib.Seq.{take-take, take_at, drop_at, drop-drop, take-add, set_split, length-take-le, drop-append-le, take-append-le}
+use borrow.Author.Tests.{ltb-true, ltb-false, le-leb}
 use Rattle.pieces.specs.Memory.{patch, part, within, piece_of, put_piece}
 
 -- a memory in three parts, the middle one replaced by one as long
@@ -73,10 +73,6 @@ pub length_part : (m : List ℕ) (at n : ℕ) → at + n ≤ length m → length
 unfolding part
 length_part m at n h = simp (length-take, length-drop) (omega arith)
 
-pub get_d_part : (m : List ℕ) (at n i : ℕ) → i < n → get_or (part m at n) i 0 ≡ get_or m (at + i) 0
-unfolding part
-get_d_part m at n i h = rw (get_or-take, get_or-drop)
-
 -- what is put back where it stood changes nothing
 pub patch-self : (m : List ℕ) (at n : ℕ) → at + n ≤ length m → patch m at (part m at n) ≡ m
 patch-self m at n h = ap (patch m at) (sym (append-nil (part m at n))) ∙ sym (patch-lead m at n [] h) ∙ patch-none m (at + n)
@@ -94,16 +90,8 @@ drop-part m at n j h f =
     let w : length (take j l) ≡ j = simp (length-take, length-drop) (omega arith) in
     ap (drop j) (ap (λ (k : ℕ). take k l) q ∙ take-add j (n - j) l) ∙ drop_at (take j l) (take (n - j) (drop j l)) j w ∙ ap (take (n - j)) (drop-drop j at m)
 
--- the bytes between two indices, by the cases
+-- the bytes between two indices
 module _ (m : List ℕ) (from to : ℕ) where
-  pub within-backwards : to < from → [] ≡ within m from to
-  unfolding within
-  within-backwards h = rw (lt-leb from to h)
-
-  pub within-past : from ≤ to → length m < to → [] ≡ within m from to
-  unfolding within
-  within-past h k = rw (le-leb from to h, lt-leb to (length m) k)
-
   pub within-there : from ≤ to → to ≤ length m → take (to - from) (drop from m) ≡ within m from to
   unfolding within part
   within-there h k = rw (le-leb from to h, le-leb to (length m) k)
@@ -140,6 +128,12 @@ part-past m at b from n h k =
 pub patch-lent : (m : List ℕ) (at n : ℕ) (p : List ℕ) → length p ≡ n → take at m ++ (p ++ drop n (drop at m)) ≡ patch m at p
 unfolding patch
 patch-lent m at n p h = rw (drop-drop, ← h)
+
+-- and so is what comes back of `&mut m[at..at + n]`, where it holds b then
+pub patch_back : (m : List ℕ) (at n : ℕ) (p b : List ℕ) → p ≡ b → length b ≡ n → take at m ++ (p ++ drop (at + n - at) (drop at m)) ≡ patch m at b
+patch_back m at n p b e h =
+    let k : at + n - at ≡ n = omega arith in
+    rw (e, k) (patch-lent m at n b h)
 
 -- ---- pieces of u bytes
 

@@ -5,15 +5,12 @@ ghost use Rattle.std.specs.Prelude.{◌∷◌, [], ◌≡◌, ◌+◌, ◌<◌, 
 ghost use Rattle.pieces.specs.Memory.{patch, within, Put};
 
 // Copies src into mem from index at on.
+#[tactic(auto, using(crate::proofs::Memory::patch_back))]
 pub fn copy_in(mem: &mut [u8], at: usize, src: &[u8])
     requires { at + length src.now ≤ length mem.old }
     ensures { mem.new ≡ patch mem.old at src.now }
 {
-    let mut i: usize = 0;
-    while i < src.len() {
-        mem[at + i] = src[i];
-        i += 1;
-    }
+    mem[at..at + src.len()].copy_from_slice(src);
 }
 
 // Writes bytes at an index, and answers the next index.
@@ -25,6 +22,8 @@ pub fn put(out: &mut [u8], at: usize, bytes: &[u8]) -> usize
     at + bytes.len()
 }
 
+// A store, and no copy of one byte: the head of each option of a message is written so.
+#[tactic(auto, using(crate::proofs::Puts::put_one))]
 pub fn put_byte(out: &mut [u8], at: usize, byte: u8) -> usize
     requires { at < length out.old }
     ensures { Put out.old at (byte ∷ []) out.new result }
@@ -38,22 +37,16 @@ pub fn zero_fill(mem: &mut [u8], at: usize, n: usize)
     requires { at + n ≤ length mem.old }
     ensures { mem.new ≡ patch mem.old at (replicate n 0) }
 {
-    let mut i: usize = 0;
-    while i < n {
-        mem[at + i] = 0;
-        i += 1;
-    }
+    mem[at..at + n].fill(0);
 }
 
 // The bytes from one index up to another, lent; none where they aren't all there.
+#[tactic(auto, unfolding(crate::specs::Memory::within, crate::specs::Memory::part))]
 pub fn within(mem: &[u8], from: usize, to: usize) -> &[u8]
     ensures { result.now ≡ within mem.now from to }
 {
-    if to < from {
-        return &mem[0..0];
+    if from <= to && to <= mem.len() {
+        return &mem[from..to];
     }
-    if mem.len() < to {
-        return &mem[0..0];
-    }
-    &mem[from..to]
+    &[]
 }

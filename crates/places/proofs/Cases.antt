@@ -6,6 +6,8 @@ use Prim.Native.Nat.{ℕ, ◌<◌}
 use native.Mathlib.Omega.{arith}
 use lib.ListN.{length, get_or}
 use lib.Dec.{eqb}
+use borrow.Author.Tests.{lt-ltb}
+use Rattle.std.specs.Prelude.{Some}
 use Rattle.tags.specs.Tags.{pairs}
 use Rattle.tags.proofs.Counts.{told-apart}
 use Rattle.config.specs.declared.Config.{Config}
@@ -16,7 +18,7 @@ use Rattle.entries.specs.Entries.{entry_ok, sweep}
 use Rattle.block_table.specs.Table.{distinct, figure_ok, table_ok}
 use Rattle.places.specs.declared.Place.{Place}
 use Rattle.places.specs.declared.Place.TheVariants.{OffLimits}
-use Rattle.key_place.specs.Place.{place}
+use Rattle.key_place.specs.Place.{row_index, place}
 use Rattle.places.specs.Places.{standing, place_of}
 use Rattle.entries.specs.Quick.{holds_live, not_live}
 use Rattle.block_table.specs.Quick.{tags_from}
@@ -45,11 +47,11 @@ module _ (c : Config) (t : Table) (k : Name) (lifetime time : ℕ) where
   by_bytes b h d = rw (h, d)
 
   by_tags : length t.entries ≡ 16 → each ≡ true
-      → eqb (pairs (tags_from 0 t.entries) (tags_from 0 t.entries)) 16 ≡ true → (i : ℕ) → place k (sweep lifetime time t.entries) ≡ i → standing i ≡ found
+      → eqb (pairs (tags_from 0 t.entries) (tags_from 0 t.entries)) 16 ≡ true → (i : ℕ) → place k (sweep lifetime time t.entries) ≡ i → standing (row_index i) ≡ found
   unfolding place_of
   by_tags len h apart i is =
       let told = told-apart (tags_from 0 t.entries) (tags-length 0 t.entries ∙ len) apart in
-      sym (by_bytes true h (distinct-by t.entries 0 told) ∙ ap (λ (z : ℕ). standing z) is)
+      sym (by_bytes true h (distinct-by t.entries 0 told) ∙ ap (λ (z : ℕ). standing (row_index z)) is)
 
   -- by the first entry with the key's own tag
   module _ (row : List ℕ) (own i : ℕ) (len : length t.entries ≡ 16) (h : each ≡ true)
@@ -60,12 +62,12 @@ module _ (c : Config) (t : Table) (k : Name) (lifetime time : ℕ) where
     at_tag : i ≡ find (λ x. eqb x (tag_of k)) (tags_from 0 t.entries)
     at_tag = rw (tags, tag) at first
 
-    pub by-own : (held : Bool) → held ≡ holds_live lifetime time k (get_or t.entries i nil) → held ≡ true → i < 16 → standing i ≡ found
+    pub by-own : (held : Bool) → held ≡ holds_live lifetime time k (get_or t.entries i nil) → held ≡ true → i < 16 → standing (Some i) ≡ found
     by-own held e y below =
         let f = tagged-holds lifetime time k t.entries i at_tag (omega arith) (sym e ∙ y) in
-        by_tags len h told i (place_kept k lifetime time t.entries i f below)
+        rw (lt-ltb i 16 below) at (by_tags len h told i (place_kept k lifetime time t.entries i f below))
 
-    pub by-none : (i < 16 → holds_live lifetime time k (get_or t.entries i nil) ≡ false) → standing (find (not_live lifetime time) t.entries) ≡ found
+    pub by-none : (i < 16 → holds_live lifetime time k (get_or t.entries i nil) ≡ false) → standing (row_index (find (not_live lifetime time) t.entries)) ≡ found
     by-none n =
         let apart = told-apart (tags_from 0 t.entries) (tags-length 0 t.entries ∙ len) told in
         let f = tagged-none lifetime time k t.entries i at_tag apart (λ below. n (omega arith)) in

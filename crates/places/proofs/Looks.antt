@@ -1,13 +1,16 @@
 -- What a walk over the row sees, turn by turn, and the place that follows from it. Assumes nothing.
 use mathlib.Core.Path.{◌≡◌, refl, sym, ap, ◌∙◌}
 use mathlib.Core.List.{List, map}
-use mathlib.Core.Bool.{Bool, true, false, not, cond, ◌&&◌, ◌||◌, and-false}
+use mathlib.Core.Bool.{Bool, true, false, not, cond, ◌&&◌, ◌||◌, false≢true}
 use Prim.Native.Nat.{ℕ, ◌+◌, ◌-◌, ◌*◌, ◌^◌, ◌≤◌, ◌<◌}
 use native.Mathlib.Nat.{add_assoc, add-zero}
 use native.Mathlib.Omega.{arith}
 use lib.ListN.{length, get_or, drop, drop_of_length-le}
-use lib.Dec.{leb, ltb, eqb}
-use borrow.Author.Tests.{lt-ltb, lt-leb, leb-true, ltb-true}
+use lib.Dec.{eqb}
+use Rattle.std.specs.Prelude.{Option, Some, None}
+use Rattle.std.specs.Option.{option_or}
+use Rattle.key_place.specs.Place.{row_index}
+use Rattle.key_place.proofs.Unswept.{row_index-here, row_index-some, row_index-none}
 use Rattle.tags.specs.Tags.{pairs}
 use Rattle.config.specs.declared.Config.{Config}
 use Rattle.pieces.proofs.Tests.{and_left, and_right, by_cases}
@@ -30,10 +33,9 @@ use Rattle.block_table.proofs.Turns.{get_d_any, freed-go, freed-end}
 use Rattle.places.specs.declared.Seen.{Seen}
 use Rattle.places.specs.declared.Sight.{Sight}
 use Rattle.places.specs.declared.Place.{Place}
-use Rattle.places.specs.declared.Quick.{Quick}
 use Rattle.places.specs.declared.Place.TheVariants.{OffLimits}
 use Rattle.places.specs.Places.{standing, place_of}
-use Rattle.places.specs.Sight.{place_in, index, index_of, sight_at, nothing_seen, seen_next, quick_place, settled}
+use Rattle.places.specs.Sight.{place_in, index_of, sight_at, seen_next, quick_place, settled}
 use Rattle.places.proofs.Cases.{each as within, off-each, by_bytes, by-own, by-none}
 
 and_assoc : (x y z : Bool) → ((x && y) && z) ≡ (x && (y && z))
@@ -61,13 +63,13 @@ module _ (c : Config) (clock time : ℕ) (s : Seen) (i : ℕ) (e : Entry) (ok : 
       → ◌≡◌ {A = Seen} (record { ok = s.ok && ok; freed = s.freed; free = s.free; counted = s.counted + n; gone = s.gone }) (seen_next c clock time s i e)
   seen-live y =
       let freed : s.freed ≡ (s.freed || not (unexpired c.lifetime time e)) = rw (live-unexpired c.lifetime time e y, or-false s.freed) in
-      let free : s.free ≡ cond (leb 16 s.free && not lives) i s.free = rw (y, and-false) in
+      let free : s.free ≡ cond (not lives) (option_or s.free (Some i)) s.free = rw y in
       let gone : s.gone ≡ s.gone + (held_by e - held_by (swept c.lifetime time e)) = rw (swept-live c.lifetime time e y) (omega arith) in
       λ k. record { ok = s.ok && is_ok k; freed = freed k; free = free k; counted = s.counted + is_held_lem k; gone = gone k }
 
-  module _ (r : ℕ) (dead : lives ≡ false) (is_free : r ≡ cond (leb 16 s.free) i s.free) where
-    first : r ≡ cond (leb 16 s.free && not lives) i s.free
-    first = is_free ∙ rw (dead, and-true (leb 16 s.free))
+  module _ (r : Option ℕ) (dead : lives ≡ false) (is_free : r ≡ option_or s.free (Some i)) where
+    first : r ≡ cond (not lives) (option_or s.free (Some i)) s.free
+    first = is_free ∙ rw dead
 
     pub seen-expired : e.used ≡ true
         → ◌≡◌ {A = Seen} (record { ok = s.ok && ok; freed = true; free = r; counted = s.counted + n; gone = s.gone + n }) (seen_next c clock time s i e)
@@ -102,8 +104,7 @@ module _ (c : Config) (clock time : ℕ) (l : List Entry) (named : Bool) where
   pub record Walked (s : Seen) (i : ℕ) : Type 0 where
     pub ok : (s.ok && all good (drop i l)) ≡ (named && all good l)
     pub freed : (s.freed || not (all fresh (drop i l))) ≡ not (all fresh l)
-    pub free : cond (leb 16 s.free) (i + find dead (drop i l)) s.free ≡ find dead l
-    pub most : s.free ≤ 16
+    pub free : option_or s.free (row_index (i + find dead (drop i l))) ≡ row_index (find dead l)
     pub long : all sized (drop i l) ≡ all sized l
     pub counted : s.counted + held_all (drop i l) ≡ held_all l
     pub kept : s.counted + held_all (map left (drop i l)) ≡ s.gone + held_all (map left l)
@@ -114,39 +115,23 @@ module _ (c : Config) (clock time : ℕ) (l : List Entry) (named : Bool) where
   pub record Ended (s : Seen) : Type 0 where
     pub ok : s.ok ≡ (named && all good l)
     pub freed : s.freed ≡ not (all fresh l)
-    pub free : s.free ≡ find dead l
+    pub free : s.free ≡ row_index (find dead l)
     pub long : all sized l ≡ true
     pub counted : s.counted ≡ held_all l
     pub kept : s.counted ≡ s.gone + held_all (map left l)
     pub few : s.counted < 2 ^ 60
-
-  pub walk-starts : (s : Seen) → s ≡ nothing_seen named → Walked s 0
-  walk-starts s is =
-      rw is (record {
-        ok = refl;
-        freed = refl;
-        free = omega arith;
-        most = omega arith;
-        long = refl;
-        counted = omega arith;
-        kept = omega arith;
-        counted-most = omega arith;
-        gone-most = omega arith;
-      })
 
   module _ (s : Seen) (i : ℕ) (was : Walked s i) where
     module _ (h : i < length l) (sixteen : length l ≡ 16) where
       abbrev e : Entry
       e = get_or l i nil
 
-      still : (b : Bool) → leb 16 s.free ≡ b → (z : Bool) → dead e ≡ z → cond (leb 16 (cond (b && z) i s.free)) ((i + 1) + find dead (drop (i + 1) l)) (cond (b && z) i s.free) ≡ find dead l
-      still true f true g = rw (lt-leb 16 i (omega arith)) (find-here dead l i nil (find dead l) h g (rw f at was.free))
-      still true f false g = rw f (find-go dead l i nil (find dead l) h g (rw f at was.free))
-      still false f z g = rw f (rw f at was.free)
-
-      lower : (b : Bool) → cond b i s.free ≤ 16
-      lower true = omega arith
-      lower false = was.most
+      still : (f : Option ℕ) (z : Bool) → dead e ≡ z → option_or f (row_index (i + find dead (drop i l))) ≡ row_index (find dead l)
+          → option_or (cond z (option_or f (Some i)) f) (row_index ((i + 1) + find dead (drop (i + 1) l))) ≡ row_index (find dead l)
+      still (Some f) true g was = was
+      still (Some f) false g was = was
+      still None true g was = row_index-here (find-here dead l i nil _ h g refl) (omega arith) ∙ was
+      still None false g was = ap row_index (find-go dead l i nil _ h g refl) ∙ was
 
       pub walk-goes : (n : Seen) → n ≡ seen_next c clock time s i e → sized e ≡ true → held_by e < 2 ^ 34 → Walked n (i + 1)
       unfolding held_all
@@ -154,8 +139,7 @@ module _ (c : Config) (clock time : ℕ) (l : List Entry) (named : Bool) where
           rw is (record {
             ok = and_assoc s.ok (good e) (all good (drop (i + 1) l)) ∙ rw (drop-step l i nil h) at was.ok;
             freed = freed-go fresh l i s.freed (not (all fresh l)) (not (fresh e)) h (sym (not-not (fresh e))) was.freed;
-            free = still (leb 16 s.free) refl (dead e) refl;
-            most = lower (leb 16 s.free && dead e);
+            free = still s.free (dead e) refl was.free;
             long = all_go sized l i nil h z ∙ was.long;
             counted = add_assoc s.counted (held_by e) (held_all (drop (i + 1) l)) ∙ rw (drop-step l i nil h) at was.counted;
             kept =
@@ -166,10 +150,12 @@ module _ (c : Config) (clock time : ℕ) (l : List Entry) (named : Bool) where
           })
 
     module _ (h : length l ≤ i) (low : i ≤ 16) (sixteen : length l ≡ 16) where
-      at-end : leb 16 s.free ≡ true → i + find dead (drop i l) ≡ find dead l → s.free ≡ find dead l
-      at-end y f =
+      at-end : (f : Option ℕ) → option_or f (row_index (i + find dead (drop i l))) ≡ row_index (find dead l) → f ≡ row_index (find dead l)
+      at-end (Some f) was = was
+      at-end None was =
           let z : find dead (drop i l) ≡ 0 = rw (drop_of_length-le l h) in
-          omega (arith, leb-true 16 s.free y, was.most)
+          let end : i + find dead (drop i l) ≡ 16 = omega arith in
+          rw end at was
 
       pub walk_ends : Ended s
       unfolding held_all
@@ -177,7 +163,7 @@ module _ (c : Config) (clock time : ℕ) (l : List Entry) (named : Bool) where
           record {
             ok = sym (and-true s.ok) ∙ rw (all_end good l i h) at was.ok;
             freed = freed-end fresh l i s.freed (not (all fresh l)) h was.freed;
-            free = by_cases (leb 16 s.free) (λ y. at-end y (rw y at was.free)) (λ n. rw n at was.free);
+            free = at-end s.free was.free;
             long = sym was.long ∙ all_end sized l i h;
             counted = sym (add-zero s.counted) ∙ rw (drop_of_length-le l h) at was.counted;
             kept = sym (add-zero s.counted) ∙ rw (drop_of_length-le l h) at was.kept;
@@ -185,6 +171,11 @@ module _ (c : Config) (clock time : ℕ) (l : List Entry) (named : Bool) where
           }
 
 -- ---- the place
+
+-- the first entry with the key's tag holds it
+abbrev pub held-first : ℕ → ℕ → Name → List Entry → Option ℕ → Bool
+held-first lifetime time k l (Some i) = holds_live lifetime time k (get_or l i nil)
+held-first lifetime time k l None = false
 
 -- the figure is the row's exactly if it is what the walk counted
 pub within_all : (t : Table) (ok named key all : Bool) (n : ℕ) → named ≡ key → ok ≡ (named && all) → n ≡ held_all t.entries → (ok && eqb t.held n) ≡ (key && (all && figure_ok t))
@@ -204,9 +195,10 @@ module _ (c : Config) (t : Table) (k : Name) (time : ℕ) where
   off false some n e h = rw n
 
   -- q is the key as the code has it, and `own` its tag
-  module _ (q : Name) (well : Bool) (none : ℕ) (tags : List ℕ) (own first : ℕ) (held : Bool) (sixteen : length row ≡ 16) (ok : well ≡ (key_ok k && each))
-      (free : none ≡ find (not_live c.lifetime time) row) (read : key_ok k ≡ true → q ≡ k) (tag : key_ok k ≡ true → own ≡ tag_of k)
-      (are : tags ≡ tags_from 0 row) (is : first ≡ find (λ x. eqb x own) tags) (r : ℕ) (indexed : r ≡ index first) (holds : held ≡ holds_live c.lifetime time q (get_or row r nil)) where
+  module _ (q : Name) (well : Bool) (none : Option ℕ) (tags : List ℕ) (own : ℕ) (first : Option ℕ) (held : Bool) (sixteen : length row ≡ 16)
+      (ok : well ≡ (key_ok k && each)) (free : none ≡ row_index (find (not_live c.lifetime time) row)) (read : key_ok k ≡ true → q ≡ k)
+      (tag : key_ok k ≡ true → own ≡ tag_of k) (are : tags ≡ tags_from 0 row) (is : first ≡ row_index (find (λ x. eqb x own) tags))
+      (holds : held ≡ held-first c.lifetime time q row first) where
     -- where all is within the limits
     module _ (h : (key_ok k && each) ≡ true) where
       key-ok : key_ok k ≡ true
@@ -215,18 +207,19 @@ module _ (c : Config) (t : Table) (k : Name) (time : ℕ) where
       row_ok : each ≡ true
       row_ok = and_right (key_ok k) each h
 
-      holds_at : first < 16 → held ≡ holds_live c.lifetime time k (get_or row first nil)
-      holds_at below = rw (indexed, lt-ltb first 16 below, read key-ok) at holds
-
-      by-tag : eqb (pairs tags tags) 16 ≡ true → (b : Bool) → (ltb first 16 && held) ≡ b → standing (cond b first none) ≡ place_in c time k t
+      by-tag : eqb (pairs tags tags) 16 ≡ true → (f : Option ℕ) → f ≡ row_index (find (λ x. eqb x own) tags) → (b : Bool) → held-first c.lifetime time q row f ≡ b
+          → standing (cond b (option_or f none) none) ≡ place_in c time k t
       unfolding place_in
-      by-tag apart true y =
-          let below : first < 16 = ltb-true first 16 (and_left (ltb first 16) held y) in
-          rw key-ok
-          (by-own c t k c.lifetime time tags own first sixteen row_ok are apart (tag key-ok) is held (holds_at below) (and_right (ltb first 16) held y) below)
-      by-tag apart false n =
-          rw (key-ok, free)
-          (by-none c t k c.lifetime time tags own first sixteen row_ok are apart (tag key-ok) is (λ below. sym (holds_at below) ∙ rw (lt-ltb first 16 below) at n))
+      by-tag apart (Some i) told true y =
+          let at = row_index-some _ (sym told) in
+          rw key-ok (by-own c t k c.lifetime time tags own i sixteen row_ok are apart (tag key-ok) at.0 _ refl (rw (read key-ok) at y) at.1)
+      by-tag apart (Some i) told false n =
+          let at = row_index-some _ (sym told) in
+          rw (key-ok, free) (by-none c t k c.lifetime time tags own i sixteen row_ok are apart (tag key-ok) at.0 (λ below. rw (read key-ok) at n))
+      by-tag apart None told true y = absurd (false≢true y)
+      by-tag apart None told false n =
+          let past = row_index-none _ (sym told) in
+          rw (key-ok, free) (by-none c t k c.lifetime time tags own _ sixteen row_ok are apart (tag key-ok) refl (λ below. absurd (omega arith)))
 
       -- where two tags are equal, byte by byte
       by_all : cond (distinct row) (place_of q (sweep c.lifetime time row)) OffLimits ≡ place_in c time k t
@@ -234,12 +227,12 @@ module _ (c : Config) (t : Table) (k : Name) (time : ℕ) where
       by_all = rw (key-ok, read key-ok) (sym (by_bytes c t k c.lifetime time (distinct row) row_ok refl))
 
     -- the quick look tells the place, or what is found byte by byte is
-    pub place-seen : (apart : Bool) (v : Quick) → apart ≡ eqb (pairs tags tags) 16 → v ≡ quick_place well none apart first held
+    pub place-seen : (apart : Bool) (v : Option Place) → apart ≡ eqb (pairs tags tags) 16 → v ≡ quick_place well none apart first held
         → settled v (cond (distinct row) (place_of q (sweep c.lifetime time row)) OffLimits) ≡ place_in c time k t
     place-seen apart v told quick =
         rw quick
         (by_cases well
-        (λ y. by_cases apart (λ z. rw (y, z) (by-tag (sym ok ∙ y) (sym told ∙ z) (ltb first 16 && held) refl)) (λ z. rw (y, z) (by_all (sym ok ∙ y))))
+        (λ y. by_cases apart (λ z. rw (y, z) (by-tag (sym ok ∙ y) (sym told ∙ z) first is held (sym holds))) (λ z. rw (y, z) (by_all (sym ok ∙ y))))
         (λ y. rw y (off (key_ok k) each refl refl (sym ok ∙ y))))
 
 -- ---- the sight

@@ -1,5 +1,6 @@
 -- What a call sees of the table, and how the code gets to see it. No contract of the handler's two calls, nor of an export, cites this.
-use Rattle.std.specs.Prelude.{ℕ, ◌+◌, ◌-◌, ◌^◌, ◌<◌, Bool, true, false, cond, not, ◌&&◌, ◌||◌, List, ◌≡◌, length, ltb, leb}
+use Rattle.std.specs.Prelude.{ℕ, ◌+◌, ◌-◌, ◌^◌, ◌<◌, Bool, true, false, cond, not, ◌&&◌, ◌||◌, List, Option, Some, None as Nowhere, ◌≡◌, length, ltb}
+use Rattle.std.specs.Option.{option_or}
 use Rattle.config.specs.declared.Config.{Config}
 use Rattle.keys.specs.Lists.{all}
 use Rattle.keys.specs.Keys.{Name, key_ok}
@@ -13,8 +14,6 @@ use Rattle.places.specs.declared.Seen.{Seen}
 use Rattle.places.specs.declared.Sight.{Sight}
 use Rattle.places.specs.declared.Place.{Place}
 use Rattle.places.specs.declared.Place.TheVariants.{At, None, OffLimits}
-use Rattle.places.specs.declared.Quick.{Quick}
-use Rattle.places.specs.declared.Quick.TheVariants.{Sure, TagsEqual}
 use Rattle.places.specs.Places.{standing, place_of}
 
 -- The key's place in the row that a sweep leaves.
@@ -54,7 +53,7 @@ Sees c time k t s = (s ≡ sight_at c time t (place_in c time k t)) × (length t
 
 -- What is seen before any entry is looked at; `ok` says that the key is within its limits.
 abbrev pub nothing_seen : Bool → Seen
-nothing_seen ok = record { ok = ok; freed = false; free = 16; counted = 0; gone = 0 }
+nothing_seen ok = record { ok = ok; freed = false; free = Nowhere; counted = 0; gone = 0 }
 
 -- What is seen once entry i is looked at.
 abbrev pub seen_next : Config → ℕ → ℕ → Seen → ℕ → Entry → Seen
@@ -62,16 +61,17 @@ seen_next c clock time s i e =
     record {
       ok = s.ok && entry_ok c clock e;
       freed = s.freed || not (unexpired c.lifetime time e);
-      free = cond (leb 16 s.free && not_live c.lifetime time e) i s.free;
+      free = cond (not_live c.lifetime time e) (option_or s.free (Some i)) s.free;
       counted = s.counted + held_by e;
       gone = s.gone + (held_by e - held_by (swept c.lifetime time e));
     }
 
 -- The key's place by the tags: `free` is the first entry that is not live, `first` the first with the key's own tag, and `holds` says that this entry holds the key.
-abbrev pub quick_place : Bool → ℕ → Bool → ℕ → Bool → Quick
-quick_place ok free apart first holds = cond ok (cond apart (Sure (standing (cond (ltb first 16 && holds) first free))) TagsEqual) (Sure OffLimits)
+-- Where two tags are equal they do not tell.
+abbrev pub quick_place : Bool → Option ℕ → Bool → Option ℕ → Bool → Option Place
+quick_place ok free apart first holds = cond ok (cond apart (Some (standing (cond holds (option_or first free) free))) Nowhere) (Some OffLimits)
 
 -- The place by a quick look, or, where it does not tell, this one.
-abbrev pub settled : Quick → Place → Place
-settled (Sure p) q = p
-settled TagsEqual q = q
+abbrev pub settled : Option Place → Place → Place
+settled (Some p) q = p
+settled Nowhere q = q

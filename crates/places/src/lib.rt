@@ -7,9 +7,10 @@ ghost use Rattle.keys.specs.Keys.{Name, key_of, named_of};
 ghost use Rattle.entries.specs.Entries.{swept, sweep};
 ghost use Rattle.entries.specs.Held.{held_by};
 ghost use Rattle.block_table.specs.Table.{distinct};
+ghost use Rattle.key_place.specs.Place.{row_index};
 ghost use Rattle.places.specs.declared.Place.TheVariants.{OffLimits};
 ghost use Rattle.places.specs.Places.{standing, place_of};
-ghost use Rattle.places.specs.Sight.{index, index_of, Sees, nothing_seen, seen_next, quick_place};
+ghost use Rattle.places.specs.Sight.{index_of, Sees, nothing_seen, seen_next, quick_place};
 ghost use Rattle.entries.specs.Quick.{sized};
 
 use block_table::Table;
@@ -17,7 +18,7 @@ use config::Config;
 use entries::Entry;
 use keys::{Key, NamedKey};
 
-// The place of a key in the row that a sweep would leave.
+// The place of a key in the row that a sweep would leave. Three ways, and no `Result` of an `Option`: check 2 stands between the refusals of the last two.
 #[derive(Clone, Copy)]
 pub enum Place {
     // The index of the entry in use for it, else of the lowest free one.
@@ -26,13 +27,6 @@ pub enum Place {
     None,
     // The key or the table is off its limits.
     OffLimits,
-}
-
-// What the tags tell of the place: nothing, where two of them are equal.
-#[derive(Clone, Copy)]
-pub enum Quick {
-    Sure(Place),
-    TagsEqual,
 }
 
 // What a call needs of the table: its clock and its figure, the place of the key, the entry that stands there now, before any sweep, with its index (the first entry
@@ -48,28 +42,24 @@ pub struct Sight {
     pub others: u64,
 }
 
-// What a walk has seen so far: whether all is within the limits, whether an entry is expired, the first entry that is not live, or 16, and the bytes that it counted, in
-// all entries and in those that are expired.
+// What a walk has seen so far: whether all is within the limits, whether an entry is expired, the first entry that is not live, and the bytes that it counted, in all
+// entries and in those that are expired.
 #[derive(Clone, Copy)]
 pub struct Seen {
     pub ok: bool,
     pub freed: bool,
-    pub free: usize,
+    pub free: Option<usize>,
     pub counted: u64,
     pub gone: u64,
 }
 
-fn narrow(x: usize) -> u32
-    requires { x < 16 }
-    ensures { result ≡ x }
+fn standing(found: Option<usize>) -> Place
+    ensures { result ≡ standing found }
 {
-    x as u32
-}
-
-fn standing(i: usize) -> Place
-    ensures { result ≡ standing i }
-{
-    if i < 16 { Place::At(i) } else { Place::None }
+    match found {
+        Some(i) => Place::At(i),
+        None => Place::None,
+    }
 }
 
 // The place found byte by byte, which is slow: only where two tags are equal. Off its limits if two entries in use have one key.
@@ -84,18 +74,16 @@ fn close_place(entries: [Entry; 16], lifetime: u64, time: u64, key: Key) -> Plac
 
 // ---- By tags
 
-// Where the tag stands in the row; 16 if nowhere.
-fn find_tag(row: [u32; 16], own: u32) -> usize
-    ensures { result ≡ find (λ x. eqb x own) row }
+// Where the tag stands in the row.
+fn find_tag(row: [u32; 16], own: u32) -> Option<usize>
+    ensures { result ≡ row_index (find (λ x. eqb x own) row) }
 {
-    let mut i = 0;
-    while i < 16 {
-        if row[i] == own {
-            return i;
+    for (i, &x) in row.iter().enumerate() {
+        if x == own {
+            return Some(i);
         }
-        i += 1;
     }
-    16
+    None
 }
 
 // What is seen before any entry is looked at; `ok` says whether the key is within its limits.
@@ -105,18 +93,10 @@ fn nothing_seen(ok: bool) -> Seen
     Seen {
         ok,
         freed: false,
-        free: 16,
+        free: None,
         counted: 0,
         gone: 0,
     }
-}
-
-// All that is seen is within its limits, and the figure is what was counted.
-fn within(seen: Seen, figure: u64) -> bool
-    ensures { result ≡ (seen.ok && eqb figure seen.counted) }
-{
-    let bytes = seen.counted;
-    seen.ok & (figure == bytes)
 }
 
 // What an entry holds that a sweep keeps.
@@ -129,87 +109,66 @@ fn kept_by(e: Entry, lifetime: u64, time: u64) -> u64
     0
 }
 
-// The first entry that is not live, where i is the next of them.
-fn first_free(free: usize, i: usize) -> usize
-    ensures { result ≡ cond (leb 16 free) i free }
-{
-    if 16 <= free { i } else { free }
-}
-
 // What is seen once entry i is looked at: it is live, expired or free.
 fn see(seen: Seen, i: usize, e: Entry, config: Config, clock: u64, time: u64) -> Seen
     requires { (seen.counted < 2 ^ 60) × (seen.gone < 2 ^ 60) }
     ensures { (result ≡ seen_next config clock time seen i e) × (sized e ≡ true) × (held_by e < 2 ^ 34) }
 {
     let checked = entries::entry_checked(config, clock, e);
-    let bytes = checked.bytes;
     let ok = seen.ok & checked.ok;
-    let counted = seen.counted + bytes;
+    let counted = seen.counted + checked.bytes;
     if expiry::is_live(e.used, e.touched, config.lifetime, time) {
         return Seen {
             ok,
-            freed: seen.freed,
-            free: seen.free,
             counted,
-            gone: seen.gone,
+            ..seen
         };
     }
+    let free = seen.free.or(Some(i));
     if e.used {
         return Seen {
             ok,
             freed: true,
-            free: first_free(seen.free, i),
+            free,
             counted,
-            gone: seen.gone + bytes,
+            gone: seen.gone + checked.bytes,
         };
     }
     Seen {
         ok,
-        freed: seen.freed,
-        free: first_free(seen.free, i),
+        free,
         counted,
-        gone: seen.gone,
+        ..seen
     }
-}
-
-fn index(i: usize) -> usize
-    ensures { (result ≡ index i) × (result < 16) }
-{
-    if i < 16 { i } else { 0 }
 }
 
 fn index_of(place: Place) -> usize
     ensures { (result ≡ index_of place) × (result < 16) }
 {
     match place {
-        Place::At(i) => index(i),
-        Place::None => 0,
-        Place::OffLimits => 0,
+        Place::At(i) if i < 16 => i,
+        _ => 0,
     }
 }
 
 // The key's place, by what is seen: whether all is within the limits, the first entry that is not live, whether the tags differ, where the key's own stands, and whether the
-// entry there holds it.
-fn quick_place(ok: bool, free: usize, apart: bool, first: usize, holds: bool) -> Quick
+// entry there holds it. Where two tags are equal it does not tell.
+fn quick_place(
+    ok: bool,
+    free: Option<usize>,
+    apart: bool,
+    first: Option<usize>,
+    holds: bool,
+) -> Option<Place>
     ensures { result ≡ quick_place ok free apart first holds }
 {
     if !ok {
-        return Quick::Sure(Place::OffLimits);
+        return Some(Place::OffLimits);
     }
     if !apart {
-        return Quick::TagsEqual;
+        return None;
     }
-    if (first < 16) & holds {
-        return Quick::Sure(Place::At(first));
-    }
-    Quick::Sure(standing(free))
-}
-
-// Its contract gives the proof the row's length.
-fn count(entries: [Entry; 16]) -> usize
-    ensures { (result ≡ 16) × (length entries ≡ 16) }
-{
-    16
+    Some(standing(if holds { first.or(free) } else { free }))
 }
 
 // What a call needs of the table, for a key that `named_keys::named` made: of any other the contract says nothing. Both walks stand here, since a function that walks
@@ -218,31 +177,25 @@ pub fn look(config: Config, table: Table, time: u64, named: NamedKey) -> Sight
     ensures { (k : Name) → named ≡ named_of k → Sees config time k table result }
 {
     let entries = table.entries;
-    let n = count(entries);
     let clock = table.clock;
     let figure = table.held;
     let mut seen = nothing_seen(named.ok);
-    let mut i = 0;
-    while i < n {
-        let e = entries[i];
+    for (i, &e) in entries.iter().enumerate() {
         seen = see(seen, i, e, config, clock, time);
-        i += 1;
     }
-    let mut tags = [0u32; 16];
-    let mut j = 0;
-    while j < n {
-        let e = entries[j];
-        tags[j] = entries::tag(e, narrow(j));
-        j += 1;
+    let mut tags = [0; 16];
+    for (j, &e) in entries.iter().enumerate() {
+        tags[j] = entries::tag(e, j as u32);
     }
-    let key = named.key;
     let first = find_tag(tags, named.tag);
-    let own = entries[index(first)];
-    let holds = key_place::holds_live(own, config.lifetime, time, key);
-    let ok = within(seen, figure);
+    let holds = match first {
+        Some(i) => key_place::holds_live(entries[i], config.lifetime, time, named.key),
+        None => false,
+    };
+    let ok = seen.ok & (figure == seen.counted);
     let place = match quick_place(ok, seen.free, tags::apart(tags), first, holds) {
-        Quick::Sure(place) => place,
-        Quick::TagsEqual => close_place(entries, config.lifetime, time, key),
+        Some(place) => place,
+        None => close_place(entries, config.lifetime, time, named.key),
     };
     let at = index_of(place);
     let entry = entries[at];

@@ -14,6 +14,4 @@ pub enum Control {
     Fresh(Config),
     // The state shown.
     Show,
-    // Any other line.
-    Other,
 }

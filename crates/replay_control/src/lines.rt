@@ -1,69 +1,57 @@
 // The lines that a replay has besides calls: a fresh start under another configuration, and the state shown.
 ghost use Rattle.std.specs.Prelude.{◌≡◌, ◌+◌, ◌≤◌, length, drop};
 ghost use Rattle.pieces.specs.Memory.{Put};
-ghost use Rattle.script_cut.specs.Cut.{fields, Fields};
+ghost use Rattle.script_cut.specs.Cut.{texts};
 ghost use Rattle.replay_control.specs.Control.{config_of, start_of, control_of, config_text};
 
 use crate::Control;
 use config::Config;
-use script_cut::{Ends, Split};
-use script_fields::Number;
+use script_cut::{Six, split_six};
+use script_fields::number_field;
 
 // The last four fields of a fresh start: T, LIFETIME, U and V.
-fn config_of(strict: bool, line: &[u8], ends: Ends) -> Control
-    requires { Fields line.now ends }
-    ensures { result ≡ config_of strict (fields (drop ends.start line.now)) }
+fn config_of(strict: bool, six: Six<'_>) -> Option<Config>
+    ensures { result ≡ config_of strict (texts six.entry) }
 {
-    let Number::Value(t) = script_fields::number_field(script_cut::field(line, ends, 2)) else {
-        return Control::Other;
-    };
-    let Number::Value(l) = script_fields::number_field(script_cut::field(line, ends, 3)) else {
-        return Control::Other;
-    };
-    let Number::Value(u) = script_fields::number_field(script_cut::field(line, ends, 4)) else {
-        return Control::Other;
-    };
-    let Number::Value(v) = script_fields::number_field(script_cut::field(line, ends, 5)) else {
-        return Control::Other;
-    };
-    Control::Fresh(Config {
+    let limit = number_field(six.third)? as usize;
+    let lifetime = number_field(six.fourth)?;
+    let upload = number_field(six.fifth)? as usize;
+    let response = number_field(six.sixth)? as usize;
+    Some(Config {
         strict,
-        limit: t as usize,
-        lifetime: l,
-        upload: u as usize,
-        response: v as usize,
+        limit,
+        lifetime,
+        upload,
+        response,
     })
 }
 
 // The six fields of a fresh start: `C` and MODE come first.
-fn start_of(line: &[u8], ends: Ends) -> Control
-    requires { Fields line.now ends }
-    ensures { result ≡ start_of (fields (drop ends.start line.now)) }
+fn start_of(six: Six<'_>) -> Option<Config>
+    ensures { result ≡ start_of (texts six.entry) }
 {
-    if !keys::same_bytes(script_cut::field(line, ends, 0), b"C") {
-        return Control::Other;
+    if six.first != b"C".as_slice() {
+        return None;
     }
-    let mode = script_cut::field(line, ends, 1);
-    if keys::same_bytes(mode, b"strict") {
-        return config_of(true, line, ends);
+    if six.second == b"strict".as_slice() {
+        return config_of(true, six);
     }
-    if keys::same_bytes(mode, b"plain") {
-        return config_of(false, line, ends);
+    if six.second == b"plain".as_slice() {
+        return config_of(false, six);
     }
-    Control::Other
+    None
 }
 
-// `C MODE T LIFETIME U V`, or `S`.
-pub fn control_of(line: &[u8]) -> Control
+// `C MODE T LIFETIME U V`, or `S`; any other line is no control line.
+pub fn control_of(line: &[u8]) -> Option<Control>
     ensures { result ≡ control_of line.now }
 {
-    if keys::same_bytes(line, b"S") {
-        return Control::Show;
+    if line == b"S".as_slice() {
+        return Some(Control::Show);
     }
-    let Split::Six(ends) = script_cut::split_six(line, 0) else {
-        return Control::Other;
-    };
-    start_of(line, ends)
+    let six = split_six(line, 0)?;
+    let config = start_of(six)?;
+    Some(Control::Fresh(config))
 }
 
 // `N config - - -`

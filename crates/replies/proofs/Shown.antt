@@ -1,4 +1,8 @@
 -- The numbers that cross to C lose nothing: the answer can be read back from them, and they show the bytes that the answer shows. Assumes nothing.
+use Rattle.refusal.specs.declared.Refusal.TheVariants.{OffLimits, ClockBack, TableFull, TooLargeToEncode, NoBlockValue, Jump, NoRoom, PastTheEnd, NotNext, BadForm}
+use Rattle.refusal.specs.Numbers.{refusal_number}
+use Rattle.refusal.specs.declared.Refusal.{Refusal}
+use Rattle.std.specs.Prelude.{Option, Some, None}
 use Prim.Native.Nat.{ℕ, ◌-◌}
 use mathlib.Core.Bool.{cond, ◌&&◌}
 use mathlib.Core.Path.{◌≡◌, refl, ap}
@@ -9,8 +13,6 @@ use lib.Seq.{take_all}
 use lib.Dec.{eqb, leb}
 use Rattle.pieces.specs.Memory.{part, within}
 use Rattle.block_value.specs.declared.BlockValue.{BlockValue}
-use Rattle.negotiation.specs.declared.MaybeBlock.{MaybeBlock}
-use Rattle.negotiation.specs.declared.MaybeBlock.TheVariants.{Absent, Given}
 use Rattle.block_state.specs.declared.Recorded.{Recorded}
 use Rattle.block_state.specs.State.{recording, recorded_block}
 use Rattle.block_state.specs.declared.Answer.{Answer}
@@ -28,6 +30,31 @@ use Rattle.replies.specs.Found.{found_in, bytes_at, body_in, served_head_in, chu
 abbrev value_of : Recorded → BlockValue
 value_of b = record { num = b.num; more = b.more; size_exponent = b.exponent }
 
+abbrev refusal_of : ℕ → Refusal
+refusal_of n =
+    cond (eqb n 1) OffLimits
+    (cond (eqb n 2) ClockBack
+    (cond (eqb n 3) TableFull
+    (cond (eqb n 4) TooLargeToEncode
+    (cond (eqb n 5) NoBlockValue
+    (cond (eqb n 6) Jump
+    (cond (eqb n 7) NoRoom
+    (cond (eqb n 8) PastTheEnd
+    (cond (eqb n 9) NotNext
+    BadForm))))))))
+
+refused : (n : Refusal) → refusal_of (refusal_number n) ≡ n
+refused OffLimits = refl
+refused ClockBack = refl
+refused TableFull = refl
+refused TooLargeToEncode = refl
+refused NoBlockValue = refl
+refused Jump = refl
+refused NoRoom = refl
+refused PastTheEnd = refl
+refused NotNext = refl
+refused BadForm = refl
+
 abbrev pub answer_of : Reply → Answer
 answer_of r =
     cond (eqb r.kind 1) (Continue (value_of r.block1))
@@ -38,23 +65,23 @@ answer_of r =
     (cond (eqb r.kind 6) Plain
     (cond (eqb r.kind 7) (Whole (value_of r.block2) r.part)
     (cond (eqb r.kind 8) (First (value_of r.block2) r.part)
-    (Refused r.refusal))))))))
+    (Refused (refusal_of r.refusal)))))))))
 
 -- a recorded value can be read back
-recorded : (b : MaybeBlock) → recorded_block (recording b) ≡ b
-recorded Absent = refl
-recorded (Given b) = refl
+recorded : (b : Option BlockValue) → recorded_block (recording b) ≡ b
+recorded None = refl
+recorded (Some b) = refl
 
 pub read_back : (a : Answer) → answer_of (reply_of a) ≡ a
 read_back (Continue b) = refl
 read_back (TooLarge b) = refl
 read_back (Handed b body) = refl
 read_back Pass = refl
-read_back (Served s) = ap (λ (b : MaybeBlock). Served (record { block1 = b; block2 = s.block2; head = s.head; chunk = s.chunk })) (recorded s.block1)
+read_back (Served s) = ap (λ (b : Option BlockValue). Served (record { block1 = b; block2 = s.block2; head = s.head; chunk = s.chunk })) (recorded s.block1)
 read_back Plain = refl
 read_back (Whole b chunk) = refl
 read_back (First b chunk) = refl
-read_back (Refused n) = refl
+read_back (Refused n) = ap (λ (k : Refusal). Refused k) (refused n)
 
 -- ---- what is shown
 

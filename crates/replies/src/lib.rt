@@ -7,7 +7,7 @@ mod numbers;
 
 pub use numbers::{body_in, chunk_in, found_in, reply_of, sent_in, served_head_in};
 
-// An answer in numbers.
+// An answer in numbers, as C reads it.
 #[repr(C)]
 #[derive(Clone, Copy)]
 pub struct Reply {

@@ -1,4 +1,5 @@
 -- The laws of a request's Block1 value, a law for each branch: what the code's answers come to, and what a block that is taken leaves. Assumes nothing.
+use Rattle.std.specs.Prelude.{Result, Ok, Err}
 use Prim.Native.Nat.{ℕ, ◌+◌, ◌-◌, ◌≤◌}
 use mathlib.Core.Path.{◌≡◌, refl, ap, ◌∙◌}
 use mathlib.Core.Bool.{Bool, true, false, cond, not, ◌&&◌}
@@ -8,12 +9,12 @@ use lib.ListN.{length, take}
 use lib.Seq.{length-take-le}
 use lib.Dec.{leb, eqb}
 use borrow.Author.Tests.{eqb-true, not-false}
+use Rattle.refusal.specs.declared.Refusal.{Refusal}
+use Rattle.refusal.specs.declared.Refusal.TheVariants.{NotNext, BadForm}
 use Rattle.pieces.proofs.Memory.{length-patch}
 use Rattle.pieces.proofs.Tests.{on_test, and_left}
 use Rattle.splicing.specs.Splice.{spliced_length, splice_of, piece_after, left_by}
 use Rattle.splicing.specs.Splice as pieces
-use Rattle.splicing.specs.declared.Splice.{Splice}
-use Rattle.splicing.specs.declared.Splice.TheVariants as splice
 use Rattle.splicing.proofs.Splicing.{length-spliced, taken_is}
 use Rattle.config.specs.declared.Config.{Config}
 use Rattle.block_value.specs.Value.{block_size, block_start}
@@ -21,18 +22,17 @@ use Rattle.block_value.specs.declared.BlockValue.{BlockValue}
 use Rattle.block_value.proofs.Laws.{size-most}
 use Rattle.block_state.specs.declared.Assembled.{Assembled}
 use Rattle.request_block1.specs.declared.Taken.{Taken}
-use Rattle.request_block1.specs.declared.Taken.TheVariants.{Refused, Body}
 use Rattle.request_block1.specs.Block1.{bad_form, not_next, length_met, taken_as, taken, piece_taken, AtMost}
 
 -- ---- whether the block is taken
 
 module _ (c : Config) (a : Assembled) (b : BlockValue) (p : ℕ) where
-  pub taken-bad : (c.strict && bad_form b p) ≡ true → taken c a b p ≡ Refused 10
+  pub taken-bad : (c.strict && bad_form b p) ≡ true → taken c a b p ≡ Err BadForm
   unfolding taken
   taken-bad h = rw h
 
   module _ (good : (c.strict && bad_form b p) ≡ false) where
-    pub taken-not-next : (c.strict && not_next a b) ≡ true → taken c a b p ≡ Refused 9
+    pub taken-not-next : (c.strict && not_next a b) ≡ true → taken c a b p ≡ Err NotNext
     unfolding taken
     taken-not-next h = rw (good, h)
 
@@ -44,11 +44,11 @@ module _ (c : Config) (a : Assembled) (b : BlockValue) (p : ℕ) where
 -- ---- what that leaves
 
 -- the piece, by what the splice answered
-pub piece-as : (c : Config) (a : Assembled) (u : List ℕ) (b : BlockValue) (payload : List ℕ) (more : Bool) (x : Splice)
+pub piece-as : (c : Config) (a : Assembled) (u : List ℕ) (b : BlockValue) (payload : List ℕ) (more : Bool) (x : Result ℕ Refusal)
     → piece_taken c a u b payload (taken_as more x) ≡ left_by x u (length_met c.strict a b) (block_start b) (block_size b) payload
-piece-as c a u b payload more (splice.Refused n) = refl
-piece-as c a u b payload true (splice.Body n) = refl
-piece-as c a u b payload false (splice.Body n) = refl
+piece-as c a u b payload more (Err n) = refl
+piece-as c a u b payload true (Ok n) = refl
+piece-as c a u b payload false (Ok n) = refl
 
 -- a splice that fits leaves the piece as long as it was
 pub length-after : (u : List ℕ) (l a s : ℕ) (p : List ℕ) → l ≤ length u → spliced_length l a s (length p) ≤ length u
@@ -65,7 +65,7 @@ module _ (c : Config) (a : Assembled) (u : List ℕ) (b : BlockValue) (payload :
   met-most = on_test (λ n. n ≤ c.upload) (c.strict && eqb b.num 0) (λ _. omega arith) (λ _. fits)
 
   -- what is assembled fits the piece, which stays as long as it was
-  abbrev pub Holds : Taken → Type 0
+  abbrev pub Holds : Result Taken Refusal → Type 0
   Holds t = AtMost c.upload t × (length (piece_taken c a u b payload t) ≡ c.upload)
 
   pub taken-holds : Holds (taken c a b (length payload))
@@ -77,13 +77,13 @@ module _ (c : Config) (a : Assembled) (u : List ℕ) (b : BlockValue) (payload :
       l : ℕ
       l = length_met c.strict a b
 
-      spliced : (x : Splice) → splice_of c.upload l (block_start b) (block_size b) (length payload) ≡ x → (more : Bool) → Holds (taken_as more x)
-      spliced (splice.Refused n) e more = (tt, size)
-      spliced (splice.Body n) e more =
+      spliced : (x : Result ℕ Refusal) → splice_of c.upload l (block_start b) (block_size b) (length payload) ≡ x → (more : Bool) → Holds (taken_as more x)
+      spliced (Err n) e more = (tt, size)
+      spliced (Ok n) e more =
           let is = taken_is _ _ _ _ _ _ e in
           let long : length (piece_after u l (block_start b) (block_size b) payload) ≡ c.upload =
           length-after u l (block_start b) (block_size b) payload (omega (arith, met-most)) (omega arith) ∙ size in
-          elim more as (λ m. Holds (taken_as m (splice.Body n))) [
+          elim more as (λ m. Holds (taken_as m (Ok n))) [
             | true ↦ (is.1, long)
             | false ↦ (is.1, long)
           ]
@@ -95,10 +95,10 @@ taken-at-most c a b p most h =
     on_test (AtMost most) (c.strict && bad_form b p) (λ _. tt)
     (λ _. on_test (AtMost most) (c.strict && not_next a b) (λ _. tt) (λ _. spliced _ refl b.more))
   where
-    spliced : (x : Splice) → splice_of c.upload (length_met c.strict a b) (block_start b) (block_size b) p ≡ x → (more : Bool) → AtMost most (taken_as more x)
-    spliced (splice.Refused n) e more = tt
-    spliced (splice.Body n) e true = omega (arith, (taken_is _ _ _ _ _ _ e).1)
-    spliced (splice.Body n) e false = omega (arith, (taken_is _ _ _ _ _ _ e).1)
+    spliced : (x : Result ℕ Refusal) → splice_of c.upload (length_met c.strict a b) (block_start b) (block_size b) p ≡ x → (more : Bool) → AtMost most (taken_as more x)
+    spliced (Err n) e more = tt
+    spliced (Ok n) e true = omega (arith, (taken_is _ _ _ _ _ _ e).1)
+    spliced (Ok n) e false = omega (arith, (taken_is _ _ _ _ _ _ e).1)
 
 -- ---- the length that a block meets, by the test
 

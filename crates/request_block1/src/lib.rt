@@ -7,12 +7,11 @@ ghost use Rattle.request_block1.specs.Block1.{bad_form, not_next, length_met, ta
 use block_state::Assembled;
 use block_value::BlockValue;
 use config::Config;
-use splicing::Splice;
+use refusal::Refusal;
 
-// What taking a block comes to: more are awaited after n bytes, or n bytes are the body.
+// What a block that is taken comes to: more are awaited after n bytes, or n bytes are the body.
 #[derive(Clone, Copy)]
 pub enum Taken {
-    Refused(u8),
     More(usize),
     Body(usize),
 }
@@ -27,7 +26,7 @@ fn bad_form(block: BlockValue, p: usize) -> bool
 fn not_next(assembled: Assembled, block: BlockValue) -> bool
     ensures { result ≡ not_next assembled block }
 {
-    let at_end = block_value::start(block) == wide::usize_of_u32(assembled.len);
+    let at_end = block_value::start(block) == assembled.len as usize;
     let no_larger = block.size_exponent <= assembled.exponent;
     !(block.num == 0) & !(at_end & no_larger)
 }
@@ -38,21 +37,17 @@ fn length_met(strict: bool, assembled: Assembled, block: BlockValue) -> usize
     if strict & (block.num == 0) {
         return 0;
     }
-    wide::usize_of_u32(assembled.len)
+    assembled.len as usize
 }
 
-fn taken_as(more: bool, splice: Splice) -> Taken
-    ensures { result ≡ taken_as more splice }
+fn taken_as(more: bool, spliced: Result<usize, Refusal>) -> Result<Taken, Refusal>
+    ensures { result ≡ taken_as more spliced }
 {
-    match splice {
-        Splice::Refused(n) => Taken::Refused(n),
-        Splice::Body(n) => {
-            if more {
-                return Taken::More(n);
-            }
-            Taken::Body(n)
-        }
+    let n = spliced?;
+    if more {
+        return Ok(Taken::More(n));
     }
+    Ok(Taken::Body(n))
 }
 
 // A block that is given and agreed on, maybe_handle_request_block1 in the Rust: strict mode's checks, then the splice.
@@ -62,16 +57,16 @@ pub fn handle_request_block1(
     piece: &mut [u8],
     payload: &[u8],
     block: BlockValue,
-) -> Taken
+) -> Result<Taken, Refusal>
     requires { (length piece.old ≡ config.upload) × (assembled.len ≤ length piece.old) }
     ensures value { result ≡ taken config assembled block (length payload.now) }
     ensures piece_after { piece.new ≡ piece_taken config assembled piece.old block payload.now result }
 {
     if config.strict & bad_form(block, payload.len()) {
-        return Taken::Refused(10);
+        return Err(Refusal::BadForm);
     }
     if config.strict & not_next(assembled, block) {
-        return Taken::Refused(9);
+        return Err(Refusal::NotNext);
     }
     let len = length_met(config.strict, assembled, block);
     let start = block_value::start(block);

@@ -13,7 +13,7 @@ ghost use Rattle.call.specs.Contract.{world, request_call, Meant, PlacedAt, aske
 use block_state::RequestNumbers;
 use block_table::Table;
 use config::Config;
-use judge::{Lengths, Verdict};
+use judge::Lengths;
 use keys::Key;
 use places::Sight;
 use request_step::Asked;
@@ -82,8 +82,8 @@ pub fn request_change<'a>(
     let sight = places::look(config, table, numbers.time, named);
     let own = named.key;
     match judge::judge(config, sight, numbers.time, lengths) {
-        Verdict::Refused(n) => table_change::refused(sight, n),
-        Verdict::Place(i) => {
+        Err(why) => table_change::refused(sight, why),
+        Ok(i) => {
             let asked = request_step::read_options(config, numbers, block1, block2);
             request_at(config, sight, upload, own, i, asked, payload)
         }

@@ -10,7 +10,7 @@ ghost use Rattle.request_step.specs.Step.{on_taken, step_with, asked_by};
 use block_state::{Answer, BlockState, Part, RequestNumbers, Stepped, state};
 use block_value::BlockValue;
 use config::Config;
-use negotiation::{MaybeBlock, Negotiated};
+use refusal::Refusal;
 use request_block1::Taken;
 
 // A request's numbers, once its options are read.
@@ -18,8 +18,8 @@ use request_block1::Taken;
 pub struct Asked {
     pub time: u64,
     pub bare: usize,
-    pub block1: MaybeBlock,
-    pub block2: MaybeBlock,
+    pub block1: Option<BlockValue>,
+    pub block2: Option<BlockValue>,
 }
 
 // Reads the options, once for all that follows.
@@ -46,32 +46,31 @@ fn go_on(
     home: usize,
     away: usize,
     state: BlockState,
-    block2: MaybeBlock,
+    block2: Option<BlockValue>,
     exponent: u8,
     reply: BlockValue,
-    taken: Taken,
+    taken: Result<Taken, Refusal>,
 ) -> Stepped
     requires { (home < 2 ^ 32) × (away < 2 ^ 32) × AtMost 4294967295 taken }
     ensures { (u : List ℕ) → left result.state u result.answer ≡ on_taken home away state u block2 exponent reply taken }
 {
     match taken {
-        Taken::Refused(n) => state::refused(state, n),
-        Taken::More(n) => {
+        Err(why) => state::refused(state, why),
+        Ok(Taken::More(n)) => {
             let next = state::with_assembled(state, n, exponent);
             state::answered(next, Answer::Continue(reply))
         }
-        Taken::Body(n) => {
+        Ok(Taken::Body(n)) => {
             let body = Part {
                 from: home,
                 to: home + n,
             };
             let next = state::with_assembled(state, 0, 0);
-            let block1 = MaybeBlock::Given(reply);
             request_block2::maybe_handle_request_block2(
                 away,
                 next,
                 block2,
-                block1,
+                Some(reply),
                 Answer::Handed(reply, body),
             )
         }
@@ -96,19 +95,19 @@ pub fn step_request(
     let p = payload.len();
     let agreed = negotiation::negotiate_block_size_if_necessary(config, block1, asked.bare, p);
     let reply = match agreed {
-        Negotiated::Refused(n) => return state::refused(state, n),
-        Negotiated::NoBlock => {
+        Err(why) => return state::refused(state, why),
+        Ok(None) => {
             return request_block2::maybe_handle_request_block2(
                 away,
                 state,
                 block2,
-                MaybeBlock::Absent,
+                None,
                 Answer::Pass,
             )
         }
-        Negotiated::Block(reply) => reply,
+        Ok(Some(reply)) => reply,
     };
-    let MaybeBlock::Given(block) = block1 else {
+    let Some(block) = block1 else {
         return state::answered(state, Answer::TooLarge(reply));
     };
     let assembled = state.assembled;

@@ -15,7 +15,7 @@ ghost use Rattle.call.specs.Contract.{world, response_call, Meant, PlacedAt};
 use block_state::ResponseNumbers;
 use block_table::Table;
 use config::Config;
-use judge::{Lengths, Verdict};
+use judge::Lengths;
 use keys::Key;
 use places::Sight;
 use table_change::Change;
@@ -84,7 +84,7 @@ pub fn response_change<'a>(
     let sight = places::look(config, table, numbers.time, named);
     let own = named.key;
     match judge::judge(config, sight, numbers.time, lengths) {
-        Verdict::Refused(n) => table_change::refused(sight, n),
-        Verdict::Place(i) => response_at(config, sight, response, own, i, numbers, head, payload),
+        Err(why) => table_change::refused(sight, why),
+        Ok(i) => response_at(config, sight, response, own, i, numbers, head, payload),
     }
 }

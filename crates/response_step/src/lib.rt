@@ -11,9 +11,8 @@ ghost use Rattle.block_state.specs.Contract.{replying};
 
 use block_state::{Answer, BlockState, Cached, Part, ResponseNumbers, Stepped, state};
 use block_value::BlockValue;
-use chunks::Chunk;
 use config::Config;
-use negotiation::Negotiated;
+use refusal::Refusal;
 
 // Copies head, then payload, to the start of the piece.
 fn cache_in<'a>(piece: &mut [u8], head: &'a [u8], payload: &'a [u8])
@@ -36,7 +35,7 @@ fn caching_state(state: BlockState, head: usize, payload: usize) -> BlockState
     state::with_cached(state, cached)
 }
 
-// The response is cached, and the chunk asked for goes out; refusal 7 where head and payload do not fit the piece.
+// The response is cached, and the chunk asked for goes out; refused where head and payload do not fit the piece.
 fn cache_response<'a>(
     config: Config,
     state: BlockState,
@@ -48,15 +47,15 @@ fn cache_response<'a>(
 ) -> Stepped
     requires { (length piece.old ≡ config.response) × (length piece.old < 2 ^ 32) × (length head.now ≤ 128) × (block.more ≡ true) }
     ensures { left result.state piece.new result.answer
-        ≡ chunked config state piece.old head.now payload.now (Chunk.Bytes block part.from part.to) }
+        ≡ chunked config state piece.old head.now payload.now (Ok (record { block = block; from = part.from; to = part.to })) }
 {
     let h = head.len();
     let p = payload.len();
     if piece.len() < h {
-        return state::refused(state, 7);
+        return state::refused(state, Refusal::NoRoom);
     }
     if piece.len() - h < p {
-        return state::refused(state, 7);
+        return state::refused(state, Refusal::NoRoom);
     }
     cache_in(piece, head, payload);
     state::answered(caching_state(state, h, p), Answer::First(block, part))
@@ -74,16 +73,18 @@ fn serve_response<'a>(
     ensures { left result.state piece.new result.answer
         ≡ chunked config state piece.old head.now payload.now (chunk_of block (length payload.now)) }
 {
-    match chunks::chunk_of(block, payload.len()) {
-        Chunk::Refused(n) => state::refused(state, n),
-        Chunk::Bytes(reply, from, to) => {
-            let part = Part { from, to };
-            if reply.more {
-                return cache_response(config, state, piece, head, payload, reply, part);
-            }
-            state::answered(state, Answer::Whole(reply, part))
-        }
+    let chunk = match chunks::chunk_of(block, payload.len()) {
+        Ok(chunk) => chunk,
+        Err(why) => return state::refused(state, why),
+    };
+    let part = Part {
+        from: chunk.from,
+        to: chunk.to,
+    };
+    if chunk.block.more {
+        return cache_response(config, state, piece, head, payload, chunk.block, part);
     }
+    state::answered(state, Answer::Whole(chunk.block, part))
 }
 
 // A response, on its key's piece of the response memory.
@@ -108,8 +109,8 @@ pub fn step_response<'a>(
         numbers.bare,
         payload.len(),
     ) {
-        Negotiated::Refused(n) => state::refused(state, n),
-        Negotiated::NoBlock => state::answered(state, Answer::Plain),
-        Negotiated::Block(block) => serve_response(config, state, piece, head, payload, block),
+        Err(why) => state::refused(state, why),
+        Ok(None) => state::answered(state, Answer::Plain),
+        Ok(Some(block)) => serve_response(config, state, piece, head, payload, block),
     }
 }

@@ -9,11 +9,10 @@ use lib.ListN.{length, get_or, take, drop}
 use lib.Seq.{take-take, take-add, take-append-le, drop_at, length-take-le}
 use borrow.Author.Tests.{lt-ltb, le-ltb, le-leb, lt-leb, eq-eqb, ne_eqb}
 use Rattle.script_fields.specs.Fields.{is_number, value, is_bytes, bytes_of, is_option, is_given, option_bytes, Decodes}
-use Rattle.script.specs.Line.{Said, unreadable, is_call, request_of, response_of, six, kind_of, line_of, CallIs, CallRead, said_by, InBuffer}
+use Rattle.script.specs.Line.{Said, unreadable, is_call, request_of, response_of, six, kind_of, line_of, CallIs, said_by, InBuffer}
 use Rattle.script.specs.declared.Call.{Call}
-use Rattle.script.specs.declared.Called.TheVariants as called
-use Rattle.script_cut.specs.Cut.{Bytes, at, fields, between, Fields}
-use Rattle.script_cut.specs.declared.Ends.{Ends}
+use Rattle.std.specs.Prelude.{Some}
+use Rattle.script_cut.specs.Cut.{Bytes, at, fields, between}
 use Rattle.script.specs.declared.Line.TheVariants as line
 
 -- ---- parts of the buffer
@@ -57,13 +56,6 @@ module _ (fs : List Bytes) where
   pub no_payload : is_bytes (at fs 5) ≡ false → is_call fs ≡ false
   unfolding is_call
   no_payload e = simp (e, and-false)
-
-  pub call-bad : {m : Bytes} → is_call fs ≡ false → CallRead called.Bad fs m
-  call-bad e = record { call = λ c q. absurd (let z : ◌≡◌ {A = ℕ} 0 1 = cc in omega (arith, z)); bad = λ q. e }
-
-  pub call-good : {c : Call} {m : Bytes} → CallIs c fs m → CallRead (called.Call c) fs m
-  call-good {c} w =
-      record { call = λ d q. let e : c ≡ d = cc in rw (← e) w; bad = λ q. absurd (let z : ◌≡◌ {A = ℕ} 0 1 = cc in omega (arith, z)) }
 
   -- the key and the payload are decoded one after the other
   pub call-is : (c : Call) {m m₁ m₂ : Bytes} → (is_number (at fs 0) ≡ true) × (c.time ≡ value (at fs 0)) → (is_number (at fs 2) ≡ true) × (c.bare ≡ value (at fs 2))
@@ -136,12 +128,12 @@ module _ (fs : List Bytes) where
   module _ {c : Call} {m : Bytes} (w : CallIs c fs m) where
     a-request : (given1 given2 : Bool) (block1 block2 : ℕ) → is_option (at fs 3) ≡ true → is_option (at fs 4) ≡ true → given1 ≡ is_given (at fs 3)
         → given2 ≡ is_given (at fs 4) → between m c.payload block1 ≡ option_bytes (at fs 3) → between m block1 block2 ≡ option_bytes (at fs 4)
-        → said_by (line.Request (record { call = c; given1 = given1; block1 = block1; given2 = given2; block2 = block2 })) m ≡ request_of fs
+        → said_by (Some (line.Request (record { call = c; given1 = given1; block1 = block1; given2 = given2; block2 = block2 }))) m ≡ request_of fs
     unfolding request_of
     a-request given1 given2 block1 block2 o p g h x y = rw (w.good, o, p, g, h, x, y, w.time, w.bare, w.key, w.payload)
 
     a-response : (own head : ℕ) → is_number (at fs 3) ≡ true → own ≡ value (at fs 3) → leb (value (at fs 3)) 1 ≡ true → is_bytes (at fs 4) ≡ true
-        → between m c.payload head ≡ bytes_of (at fs 4) → said_by (line.Response (record { call = c; own = eqb own 1; head = head })) m ≡ response_of fs
+        → between m c.payload head ≡ bytes_of (at fs 4) → said_by (Some (line.Response (record { call = c; own = eqb own 1; head = head }))) m ≡ response_of fs
     unfolding response_of
     a-response own head n v s b x = rw (w.good, n, s, b, v, x, w.time, w.bare, w.key, w.payload)
 
@@ -150,8 +142,8 @@ module _ (fs : List Bytes) where
     pub request-read : {given1 given2 : Bool} {m₁ m₂ : Bytes} {block1 block2 : ℕ} → given1 ≡ is_given (at fs 3) → given2 ≡ is_given (at fs 4)
         → (is_option (at fs 3) ≡ true) × Decodes (at fs 3) m c.payload (option_bytes (at fs 3)) m₁ block1
         → (is_option (at fs 4) ≡ true) × Decodes (at fs 4) m₁ block1 (option_bytes (at fs 4)) m₂ block2
-        → (said_by (line.Request (record { call = c; given1 = given1; block1 = block1; given2 = given2; block2 = block2 })) m₂ ≡ request_of fs)
-        × InBuffer (line.Request (record { call = c; given1 = given1; block1 = block1; given2 = given2; block2 = block2 })) m₂
+        → (said_by (Some (line.Request (record { call = c; given1 = given1; block1 = block1; given2 = given2; block2 = block2 }))) m₂ ≡ request_of fs)
+        × InBuffer (Some (line.Request (record { call = c; given1 = given1; block1 = block1; given2 = given2; block2 = block2 }))) m₂
     request-read {given1} {given2} {block1 = block1} {block2} g h o p =
         let past : c.payload ≤ block1 = omega (arith, o.1.to) in
         let held = call_kept (call_kept w o.1 (omega arith)) p.1 past in
@@ -161,8 +153,8 @@ module _ (fs : List Bytes) where
     -- a head behind it
     pub response-read : {own : ℕ} {m₁ : Bytes} {head : ℕ} → (is_number (at fs 3) ≡ true) × (own ≡ value (at fs 3)) → own ≤ 1
         → (is_bytes (at fs 4) ≡ true) × Decodes (at fs 4) m c.payload (bytes_of (at fs 4)) m₁ head
-        → (said_by (line.Response (record { call = c; own = eqb own 1; head = head })) m₁ ≡ response_of fs)
-        × InBuffer (line.Response (record { call = c; own = eqb own 1; head = head })) m₁
+        → (said_by (Some (line.Response (record { call = c; own = eqb own 1; head = head }))) m₁ ≡ response_of fs)
+        × InBuffer (Some (line.Response (record { call = c; own = eqb own 1; head = head }))) m₁
     response-read {own} {head = head} n small b =
         let held = call_kept w b.1 (omega arith) in (
           a-response held own head n.0 n.1 (own-small own n.1 small) b.0 (part-new b.1),
@@ -198,14 +190,11 @@ module _ (l : Bytes) (long : 2 ≤ length l) where
     unfolding kind_of
     other-line h k = rw (a-line, ne_eqb (get_or l 0 0) 81 h, ne_eqb (get_or l 0 0) 80 k)
 
-    module _ {e : Ends} (f : (e.start ≡ 2) × Fields l e) where
-      six-are : eqb (length (fields (drop 2 l))) 6 ≡ true
-      six-are = rw (← f.0, f.1.are)
-
-      pub request-line : get_or l 0 0 ≡ 81 → request_of (fields (drop e.start l)) ≡ line_of l
+    module _ {fs : List Bytes} (f : fs ≡ fields (drop 2 l)) (six-are : eqb (length fs) 6 ≡ true) where
+      pub request-line : get_or l 0 0 ≡ 81 → request_of fs ≡ line_of l
       unfolding kind_of six
-      request-line h = rw (f.0, a-line, h, six-are)
+      request-line h = rw (a-line, h, ← f, six-are)
 
-      pub response-line : get_or l 0 0 ≡ 80 → response_of (fields (drop e.start l)) ≡ line_of l
+      pub response-line : get_or l 0 0 ≡ 80 → response_of fs ≡ line_of l
       unfolding kind_of six
-      response-line h = rw (f.0, a-line, h, six-are)
+      response-line h = rw (a-line, h, ← f, six-are)

@@ -1,10 +1,8 @@
 -- The grammar of a script line: `Q now key bare block1 block2 payload` or `P now key bare own head payload`.
-use Rattle.std.specs.Prelude.{ℕ, ◌+◌, ◌*◌, ◌≤◌, ◌≡◌, Bool, true, false, cond, ◌&&◌, List, eqb, ltb, leb, length, get_or, take, drop}
+use Rattle.std.specs.Prelude.{ℕ, ◌+◌, ◌*◌, ◌≤◌, ◌≡◌, Bool, true, false, cond, ◌&&◌, List, eqb, ltb, leb, length, get_or, take, drop, Option, Some, None, MatchOption}
 use Rattle.script_cut.specs.Cut.{Bytes, fields, at, between}
 use Rattle.script_fields.specs.Fields.{is_number, value, is_bytes, bytes_of, is_option, is_given, option_bytes}
 use Rattle.script.specs.declared.Call.{Call}
-use Rattle.script.specs.declared.Called.{Called}
-use Rattle.script.specs.declared.Called.TheVariants as called
 use Rattle.script.specs.declared.Line.{Line}
 use Rattle.script.specs.declared.Line.TheVariants as line
 
@@ -61,22 +59,21 @@ pub record CallIs (c : Call) (fs : List Bytes) (m : Bytes) : Type 0 where
   pub within : c.payload ≤ length m
   pub half : 2 * c.payload ≤ length (at fs 1) + length (at fs 5)
 
-pub record CallRead (r : Called) (fs : List Bytes) (m : Bytes) : Type 0 where
-  pub call : (c : Call) → r ≡ called.Call c → CallIs c fs m
-  pub bad : r ≡ called.Bad → is_call fs ≡ false
+abbrev pub CallRead : Option Call → List Bytes → Bytes → Type 0
+CallRead r fs m = MatchOption r (is_call fs ≡ false) (λ c. CallIs c fs m)
 
 -- Behind the payload stand block 1 and block 2, or the head.
-abbrev pub said_by : Line → Bytes → Said
-said_by (line.Request r) m =
+abbrev pub said_by : Option Line → Bytes → Said
+said_by (Some (line.Request r)) m =
     request r.call.time (take r.call.key m) r.call.bare r.given1 (between m r.call.payload r.block1) r.given2
     (between m r.block1 r.block2) (between m r.call.key r.call.payload)
-said_by (line.Response r) m =
+said_by (Some (line.Response r)) m =
     response r.call.time (take r.call.key m) r.call.bare r.own (between m r.call.payload r.head)
     (between m r.call.key r.call.payload)
-said_by line.Unreadable m = unreadable
+said_by None m = unreadable
 
 -- The parts that the answer names follow each other within the buffer.
-abbrev pub InBuffer : Line → Bytes → Type 0
-InBuffer (line.Request r) m = (r.call.key ≤ r.call.payload) × (r.call.payload ≤ r.block1) × (r.block1 ≤ r.block2) × (r.block2 ≤ length m)
-InBuffer (line.Response r) m = (r.call.key ≤ r.call.payload) × (r.call.payload ≤ r.head) × (r.head ≤ length m)
-InBuffer line.Unreadable m = Unit {0}
+abbrev pub InBuffer : Option Line → Bytes → Type 0
+InBuffer (Some (line.Request r)) m = (r.call.key ≤ r.call.payload) × (r.call.payload ≤ r.block1) × (r.block1 ≤ r.block2) × (r.block2 ≤ length m)
+InBuffer (Some (line.Response r)) m = (r.call.key ≤ r.call.payload) × (r.call.payload ≤ r.head) × (r.head ≤ length m)
+InBuffer None m = Unit {0}

@@ -14,13 +14,8 @@ pub struct Call {
     pub payload: usize,
 }
 
-#[derive(Clone, Copy)]
-pub enum Called {
-    Call(Call),
-    Bad,
-}
-
 // A request: which block options it has, and where their bytes end, behind the payload and behind each other.
+// An end stands beside each flag, also where the option is absent: the next part starts there.
 #[derive(Clone, Copy)]
 pub struct Request {
     pub call: Call,
@@ -42,5 +37,4 @@ pub struct Response {
 pub enum Line {
     Request(Request),
     Response(Response),
-    Unreadable,
 }

@@ -2,7 +2,7 @@
 use mathlib.Core.Path.{◌≡◌, refl, sym, ap, ◌∙◌}
 use mathlib.Core.Bool.{Bool, true, false, cond}
 use mathlib.Core.List.{List, [], ◌∷◌, ◌++◌}
-use Prim.Native.Nat.{ℕ, zero, suc, ◌+◌, ◌-◌, ◌≤◌, ◌<◌}
+use Prim.Native.Nat.{ℕ, suc, ◌+◌, ◌-◌, ◌≤◌, ◌<◌}
 use native.Mathlib.Numerals.{add-one}
 use native.Mathlib.Omega.{arith}
 use lib.Dec.{eqb, ltb}
@@ -10,10 +10,7 @@ use lib.ListN.{length, get_or, take, drop, length-take, length-drop, drop_of_len
 use lib.Seq.{drop-cons, take-suc, get_or-drop}
 use borrow.Author.Tests.{lt-ltb, le-ltb, ltb-true, ltb-false, eq-eqb, ne_eqb}
 use Rattle.pieces.proofs.Tests.{by_cases}
-use Rattle.script_cut.specs.Cut.{Bytes, push, cut_at, fields, between, UpTo, Next, Fields, field_of, Parts}
-use Rattle.script_cut.specs.declared.Ends.{Ends}
-use Rattle.script_cut.specs.declared.Split.{Split}
-use Rattle.script_cut.specs.declared.Split.TheVariants as split
+use Rattle.script_cut.specs.Cut.{Bytes, push, cut_at, fields, between, lengths, UpTo, Next}
 
 -- bytes before the first field
 abbrev pub push_all : List ℕ → List (List ℕ) → List (List ℕ)
@@ -70,15 +67,17 @@ module _ (mark : ℕ) (l : List ℕ) (from i : ℕ) (m : Met mark l from i) wher
         is = m.is ∙ ap (push_all (between l from i)) f ∙ push-none (between l from i) (cut_at mark (drop (i + 1) l)) ∙ rw (lt-ltb i (length l) h);
       }
 
-  pub met-end : length l ≤ i → UpTo mark l from i
+  pub met-end : length l ≤ i → UpTo mark l from (length l)
   unfolding cut_at
   met-end h =
       let f : cut_at mark (drop i l) ≡ [] ∷ [] = rw (drop_of_length-le l {i = i} h) in
-      record {
+      let end : i ≡ length l = omega (arith, m.within) in
+      let u : UpTo mark l from i = record {
         after = m.after;
         within = m.within;
         is = m.is ∙ ap (push_all (between l from i)) f ∙ push-none (between l from i) [] ∙ rw (le-ltb i (length l) h);
-      }
+      } in
+      rw end at u
 
 module _ (mark : ℕ) (l : List ℕ) (from r : ℕ) (u : UpTo mark l from r) where
   pub next_field : r < length l → cut_at mark (drop from l) ≡ between l from r ∷ cut_at mark (drop (r + 1) l)
@@ -86,10 +85,6 @@ module _ (mark : ℕ) (l : List ℕ) (from r : ℕ) (u : UpTo mark l from r) whe
 
   pub last-field : length l ≤ r → cut_at mark (drop from l) ≡ between l from r ∷ []
   last-field h = u.is ∙ rw (le-ltb r (length l) h)
-
-  -- the last one reaches to the end
-  pub whole-field : length l ≤ r → cut_at mark (drop from l) ≡ between l from (length l) ∷ []
-  whole-field h = let e : r ≡ length l = omega (arith, u.within) in last-field h ∙ ap (λ (n : ℕ). between l from n ∷ []) e
 
 push-some : (x : ℕ) (fs : List (List ℕ)) → 0 < length (push x fs)
 unfolding push
@@ -151,67 +146,37 @@ module _ {l : Bytes} {from a b c d e z : ℕ} (u : UpTo 32 l from a) (n₁ : Nex
   before : {x y : ℕ} → Next l x y → y < length l → x < length l
   before {x} {y} n h = by_cases (ltb x (length l)) (ltb-true x (length l)) (λ t. absurd (omega (arith, n.none (ltb-false x (length l) t))))
 
-  pub exactly : e < length l → length l ≤ z → Fields l (record { start = from; first = a; second = b; third = c; fourth = d; fifth = e })
+  pub exactly : e < length l → length l ≤ z
+      → (between l from a ∷ between l (a + 1) b ∷ between l (b + 1) c ∷ between l (c + 1) d ∷ between l (d + 1) e ∷ between l (e + 1) z ∷ []) ≡ fields (drop from l)
   exactly h k =
       let hd = before n₄ h in
       let hc = before n₃ hd in
       let hb = before n₂ hc in
       let ha = before n₁ hb in
-      record {
-        zero = u.after;
-        one = omega (arith, (n₁.behind ha).after);
-        two = omega (arith, (n₂.behind hb).after);
-        three = omega (arith, (n₃.behind hc).after);
-        four = omega (arith, (n₄.behind hd).after);
-        five = h;
-        are = rw (
-          next_field 32 l from a u ha,
-          next_field 32 l (a + 1) b (n₁.behind ha) hb,
-          next_field 32 l (b + 1) c (n₂.behind hb) hc,
-          next_field 32 l (c + 1) d (n₃.behind hc) hd,
-          next_field 32 l (d + 1) e (n₄.behind hd) h,
-          whole-field 32 l (e + 1) z (n₅.behind h) k,
-        );
-      }
+      rw (
+        next_field 32 l from a u ha,
+        next_field 32 l (a + 1) b (n₁.behind ha) hb,
+        next_field 32 l (b + 1) c (n₂.behind hb) hc,
+        next_field 32 l (c + 1) d (n₃.behind hc) hd,
+        next_field 32 l (d + 1) e (n₄.behind hd) h,
+        last-field 32 l (e + 1) z (n₅.behind h) k,
+      )
 
--- what an answer of the cut says
-pub six-fields : (l : Bytes) (from : ℕ) {r : Split} {e : Ends} → r ≡ split.Six e → Parts l from r → (e.start ≡ from) × Fields l e
-six-fields l from q h = rw q at h
+-- ---- the fields fit the line together
 
-pub not-six-fields : (l : Bytes) (from : ℕ) {r : Split} → r ≡ split.Other → Parts l from r → eqb (length (fields (drop from l))) 6 ≡ false
-not-six-fields l from q h = rw q at h
+push-long : (x : ℕ) (fs : List Bytes) → lengths (push x fs) ≤ 1 + lengths fs
+unfolding push
+push-long x [] = omega arith
+push-long x (f ∷ fs) = omega arith
 
--- ---- a field of six
+lengths-cut : (mark : ℕ) (l : Bytes) → lengths (cut_at mark l) ≤ length l
+unfolding cut_at
+lengths-cut mark [] = omega arith
+lengths-cut mark (x ∷ xs) = go (eqb x mark) (lengths-cut mark xs)
+  where
+    go : (b : Bool) → lengths (cut_at mark xs) ≤ length xs → lengths (cond b ([] ∷ cut_at mark xs) (push x (cut_at mark xs))) ≤ suc (length xs)
+    go true h = omega arith
+    go false h = omega (arith, push-long x (cut_at mark xs))
 
-abbrev pub starts : Ends → List ℕ
-starts e = e.start ∷ (e.first + 1) ∷ (e.second + 1) ∷ (e.third + 1) ∷ (e.fourth + 1) ∷ (e.fifth + 1) ∷ []
-
-abbrev pub stops : Ends → ℕ → List ℕ
-stops e n = e.first ∷ e.second ∷ e.third ∷ e.fourth ∷ e.fifth ∷ n ∷ []
-
-pub record At (l : Bytes) (e : Ends) (i from to : ℕ) : Type 0 where
-  pub order : from ≤ to
-  pub within : to ≤ length l
-  pub is : between l from to ≡ field_of l e i
-
-module _ (l : Bytes) (e : Ends) (f : Fields l e) where
-  pub field_at : (i : ℕ) → i < 6 → At l e i (get_or (starts e) i 0) (get_or (stops e (length l)) i 0)
-  field_at zero h = record { order = omega (arith, f.zero); within = omega (arith, f.one, f.two, f.three, f.four, f.five); is = rw f.are }
-  field_at (suc zero) h = record { order = omega (arith, f.one); within = omega (arith, f.two, f.three, f.four, f.five); is = rw f.are }
-  field_at (suc (suc zero)) h = record { order = omega (arith, f.two); within = omega (arith, f.three, f.four, f.five); is = rw f.are }
-  field_at (suc (suc (suc zero))) h = record { order = omega (arith, f.three); within = omega (arith, f.four, f.five); is = rw f.are }
-  field_at (suc (suc (suc (suc zero)))) h = record { order = omega (arith, f.four); within = omega (arith, f.five); is = rw f.are }
-  field_at (suc (suc (suc (suc (suc zero))))) h = record { order = omega (arith, f.five); within = omega arith; is = rw f.are }
-  field_at (suc (suc (suc (suc (suc (suc i)))))) h = absurd (omega arith)
-
-  at_most : (m : Bytes) (from to : ℕ) → from ≤ to → length (between m from to) + from ≤ to
-  at_most m from to h = simp length-take (omega arith)
-
-  -- the fields that are decoded fit the line together
-  pub fields_fit : length (field_of l e 1) + length (field_of l e 3) + length (field_of l e 4) + length (field_of l e 5) ≤ length l
-  fields_fit =
-      let b1 = at_most l (e.first + 1) e.second (omega (arith, f.one)) in
-      let b3 = at_most l (e.third + 1) e.fourth (omega (arith, f.three)) in
-      let b4 = at_most l (e.fourth + 1) e.fifth (omega (arith, f.four)) in
-      let b5 = at_most l (e.fifth + 1) (length l) (omega (arith, f.five)) in
-      rw f.are (omega (arith, f.two))
+pub fields_fit : (l : Bytes) (from : ℕ) (six : List Bytes) → six ≡ fields (drop from l) → lengths six ≤ length l
+fields_fit l from six e = rw e (omega (arith, lengths-cut 32 (drop from l), length-drop from l))

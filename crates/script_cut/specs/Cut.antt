@@ -1,8 +1,6 @@
 -- A text cut at each mark, and six fields with a space between each two.
-use Rattle.std.specs.Prelude.{ℕ, ◌+◌, ◌-◌, ◌≤◌, ◌<◌, ◌≡◌, false, cond, List, [], ◌∷◌, eqb, ltb, length, get_or, take, drop}
-use Rattle.script_cut.specs.declared.Ends.{Ends}
-use Rattle.script_cut.specs.declared.Split.{Split}
-use Rattle.script_cut.specs.declared.Split.TheVariants as split
+use Rattle.script_cut.specs.declared.Six.{Six}
+use Rattle.std.specs.Prelude.{ℕ, ◌+◌, ◌-◌, ◌≤◌, ◌<◌, ◌≡◌, false, cond, List, [], ◌∷◌, eqb, ltb, length, get_or, take, drop, Option, Some, None}
 
 abbrev pub Bytes : Type 0
 Bytes = List ℕ
@@ -42,25 +40,16 @@ pub record Next (l : Bytes) (space r : ℕ) : Type 0 where
   pub behind : space < length l → UpTo 32 l (space + 1) r
   pub none : length l ≤ space → r ≡ length l
 
-abbrev pub six_parts : Bytes → Ends → List Bytes
-six_parts l e =
-    between l e.start e.first ∷ between l (e.first + 1) e.second ∷ between l (e.second + 1) e.third
-    ∷ between l (e.third + 1) e.fourth ∷ between l (e.fourth + 1) e.fifth ∷ between l (e.fifth + 1) (length l) ∷ []
+-- How many bytes the fields have together.
+abbrev pub lengths : List Bytes → ℕ
+lengths [] = 0
+lengths (f ∷ fs) = length f + lengths fs
 
--- Six fields with these ends.
-pub record Fields (l : Bytes) (e : Ends) : Type 0 where
-  pub zero : e.start ≤ e.first
-  pub one : e.first < e.second
-  pub two : e.second < e.third
-  pub three : e.third < e.fourth
-  pub four : e.fourth < e.fifth
-  pub five : e.fifth < length l
-  pub are : fields (drop e.start l) ≡ six_parts l e
-
-abbrev pub field_of : Bytes → Ends → ℕ → Bytes
-field_of l e i = at (fields (drop e.start l)) i
+-- The six as a list.
+abbrev pub texts : Six → List Bytes
+texts six = six.first.now ∷ six.second.now ∷ six.third.now ∷ six.fourth.now ∷ six.fifth.now ∷ six.sixth.now ∷ []
 
 -- Six fields from an index on; or not six.
-abbrev pub Parts : Bytes → ℕ → Split → Type 0
-Parts l from (split.Six e) = (e.start ≡ from) × Fields l e
-Parts l from split.Other = eqb (length (fields (drop from l))) 6 ≡ false
+abbrev pub Parts : Bytes → ℕ → Option (List Bytes) → Type 0
+Parts l from (Some six) = six ≡ fields (drop from l)
+Parts l from None = eqb (length (fields (drop from l))) 6 ≡ false

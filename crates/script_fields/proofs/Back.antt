@@ -1,5 +1,5 @@
 -- What is written reads back the same: decimals, and bytes in hex. Assumes nothing.
-use mathlib.Core.Path.{◌≡◌, refl, ◌∙◌}
+use mathlib.Core.Path.{◌≡◌, refl, ap, ◌∙◌}
 use mathlib.Core.Bool.{Bool, true, false, cond}
 use mathlib.Core.List.{List, [], ◌∷◌, ◌++◌}
 use Prim.Native.Nat.{ℕ, zero, suc, ◌+◌, ◌-◌, ◌*◌, ◌/◌, ◌%◌, ◌^◌, ◌≤◌, ◌<◌}
@@ -8,7 +8,8 @@ use native.Mathlib.Omega.{arith}
 use lib.Dec.{ltb}
 use lib.ListN.{length, length-append}
 use borrow.Author.Tests.{lt-ltb, ltb-true, ltb-false, le-leb, lt-leb, ne_eqb}
-use Rattle.script_fields.specs.Fields.{is_digit, all_digits, value_from, value, is_number, nibble, is_hex, is_pairs, pairs_of, is_mark, is_bytes, bytes_of}
+use Rattle.std.specs.Prelude.{Some}
+use Rattle.script_fields.specs.Fields.{is_digit, all_digits, value_from, value, is_number, nibble, digit_value, is_hex, is_pairs, pairs_of, is_mark, is_bytes, bytes_of}
 use Rattle.script_text.specs.Text.{decimal_from, decimal, hex_digit, hex, shown}
 use Rattle.pieces.proofs.Tests.{both}
 use Rattle.script_text.proofs.Laws.{hex-length}
@@ -68,28 +69,28 @@ abbrev pub AllBytes : List ℕ → Type 0
 AllBytes [] = Unit {0}
 AllBytes (b ∷ bs) = (b < 256) × AllBytes bs
 
-low-nibble : (d : ℕ) → d < 10 → nibble (48 + d) ≡ d
+low-nibble : (d : ℕ) → d < 10 → nibble (48 + d) ≡ Some d
 unfolding nibble
-low-nibble d h = rw (le-leb 48 (48 + d) (omega arith), le-leb (48 + d) 57 (omega arith)) (omega arith)
+low-nibble d h = rw (le-leb 48 (48 + d) (omega arith), le-leb (48 + d) 57 (omega arith)) (ap Some (omega arith))
 
-high-nibble : (d : ℕ) → 10 ≤ d → d < 16 → nibble (87 + d) ≡ d
+high-nibble : (d : ℕ) → 10 ≤ d → d < 16 → nibble (87 + d) ≡ Some d
 unfolding nibble
-high-nibble d h k = rw (le-leb 48 (87 + d) (omega arith), lt-leb (87 + d) 57 (omega arith), le-leb 97 (87 + d) (omega arith), le-leb (87 + d) 102 (omega arith)) (omega arith)
+high-nibble d h k = rw (le-leb 48 (87 + d) (omega arith), lt-leb (87 + d) 57 (omega arith), le-leb 97 (87 + d) (omega arith), le-leb (87 + d) 102 (omega arith)) (ap Some (omega arith))
 
-nibble-back : (d : ℕ) → d < 16 → nibble (hex_digit d) ≡ d
+nibble-back : (d : ℕ) → d < 16 → nibble (hex_digit d) ≡ Some d
 unfolding hex_digit
 nibble-back d h = go (ltb d 10) refl
   where
-    go : (b : Bool) → ltb d 10 ≡ b → nibble (cond b (48 + d) (87 + d)) ≡ d
+    go : (b : Bool) → ltb d 10 ≡ b → nibble (cond b (48 + d) (87 + d)) ≡ Some d
     go true e = low-nibble d (ltb-true d 10 e)
     go false e = high-nibble d (ltb-false d 10 e) h
 
 hex-digit-is : (d : ℕ) → d < 16 → is_hex (hex_digit d) ≡ true
 unfolding is_hex
-hex-digit-is d h = rw (nibble-back d h, ne_eqb d 16 (λ e. omega (arith, e)))
+hex-digit-is d h = rw (nibble-back d h)
 
 pub hex-back : (bs : List ℕ) → AllBytes bs → (is_pairs (hex bs) ≡ true) × (pairs_of (hex bs) ≡ bs)
-unfolding hex is_pairs pairs_of
+unfolding hex is_pairs pairs_of digit_value
 hex-back [] h = (refl, refl)
 hex-back (b ∷ bs) h =
     let w = hex-back bs h.1 in

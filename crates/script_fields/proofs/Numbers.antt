@@ -9,10 +9,10 @@ use lib.Dec.{ltb, leb}
 use lib.ListN.{length, get_or, drop, drop_of_length-le}
 use lib.Seq.{drop-cons}
 use borrow.Author.Tests.{lt-ltb, le-ltb, leb-true}
+use Rattle.std.specs.Prelude.{Some, None}
+use Rattle.std.proofs.lemmas.Option.{cond_some}
 use Rattle.script_fields.specs.Fields.{is_digit, all_digits, value_from, value, is_number, number_of}
 use Rattle.pieces.proofs.Tests.{both}
-use Rattle.script_fields.specs.declared.Number.{Number}
-use Rattle.script_fields.specs.declared.Number.TheVariants as number
 
 pub digits_step : (text : List ℕ) (i : ℕ) → i < length text → all_digits (drop i text) ≡ (is_digit (get_or text i 0) && all_digits (drop (i + 1) text))
 unfolding all_digits
@@ -36,27 +36,27 @@ pub upto-start : (text : List ℕ) → Upto text 0 0
 unfolding value
 upto-start text = (omega arith, omega arith, refl, refl)
 
-pub no_digit_lem : (text : List ℕ) → length text ≡ 0 → number_of text ≡ number.Bad
+pub no_digit_lem : (text : List ℕ) → length text ≡ 0 → number_of text ≡ None
 unfolding number_of is_number
 no_digit_lem text h = rw (le-ltb 0 (length text) (omega arith))
 
-pub bad-digit : (text : List ℕ) (sum i : ℕ) → Upto text sum i → i < length text → is_digit (get_or text i 0) ≡ false → number_of text ≡ number.Bad
+pub bad-digit : (text : List ℕ) (sum i : ℕ) → Upto text sum i → i < length text → is_digit (get_or text i 0) ≡ false → number_of text ≡ None
 unfolding number_of is_number
 bad-digit text sum i u h e =
     let d : all_digits text ≡ false = u.2 ∙ digits_step text i h ∙ rw e in
     rw (d, and-false (ltb 0 (length text)))
 
-pub too_large_lem : (text : List ℕ) (sum i : ℕ) → Upto text sum i → i < length text → 2 ^ 64 ≤ sum * 10 + (get_or text i 0 - 48) → number_of text ≡ number.Bad
+pub too_large_lem : (text : List ℕ) (sum i : ℕ) → Upto text sum i → i < length text → 2 ^ 64 ≤ sum * 10 + (get_or text i 0 - 48) → number_of text ≡ None
 unfolding number_of is_number
 too_large_lem text sum i u h l =
     let v : 2 ^ 64 ≤ value text = omega (arith, u.3 ∙ value-step text sum i h, value-least (sum * 10 + (get_or text i 0 - 48)) (drop (i + 1) text)) in
     rw (le-ltb (value text) (2 ^ 64) v, and-false (all_digits text), and-false (ltb 0 (length text)))
 
-pub upto_turn : (text : List ℕ) (sum i d : ℕ) → Upto text sum i → i < length text → is_digit (get_or text i 0) ≡ true → d ≡ get_or text i 0 - 48 → sum * 10 + d < 2 ^ 64 → Upto text (sum * 10 + d) (i + 1)
-upto_turn text sum i d u h e w l =
-    (omega arith, l, u.2 ∙ digits_step text i h ∙ rw e, u.3 ∙ value-step text sum i h ∙ ap (λ (k : ℕ). value_from (sum * 10 + k) (drop (i + 1) text)) (sym w))
+pub upto_turn : (text : List ℕ) (sum i s : ℕ) → Upto text sum i → i < length text → is_digit (get_or text i 0) ≡ true → s ≡ sum * 10 + (get_or text i 0 - 48) → s < 2 ^ 64 → Upto text s (i + 1)
+upto_turn text sum i s u h e w l =
+    (omega arith, l, u.2 ∙ digits_step text i h ∙ rw e, u.3 ∙ value-step text sum i h ∙ ap (λ (k : ℕ). value_from k (drop (i + 1) text)) (sym w))
 
-pub upto_done : (text : List ℕ) (sum i : ℕ) → Upto text sum i → length text ≤ i → (length text ≡ 0 → ⊥) → number_of text ≡ number.Value sum
+pub upto_done : (text : List ℕ) (sum i : ℕ) → Upto text sum i → length text ≤ i → (length text ≡ 0 → ⊥) → number_of text ≡ Some sum
 unfolding number_of is_number all_digits value_from
 upto_done text sum i u h p =
     let n : drop i text ≡ [] = drop_of_length-le text {i = i} h in
@@ -66,22 +66,17 @@ upto_done text sum i u h p =
 
 -- ---- what an answer tells
 
-number-cases : (text : List ℕ) (b : Bool) → is_number text ≡ b → (r : Number) → r ≡ cond b (number.Value (value text)) number.Bad
-    → ((n : ℕ) → r ≡ number.Value n → (b ≡ true) × (n ≡ value text)) × (r ≡ number.Bad → b ≡ false)
-number-cases text true e r w = (λ n q. (refl, cc), λ q. cc)
-number-cases text false e r w = (λ n q. (cc, cc), λ q. refl)
+pub cond_none : {A : Type 0} (b : Bool) (x : A) → None ≡ cond b (Some x) None → b ≡ false
+cond_none true x e = cc
+cond_none false x e = refl
 
-pub number-good : (text : List ℕ) (r : Number) (n : ℕ) → r ≡ number_of text → r ≡ number.Value n → (is_number text ≡ true) × (n ≡ value text)
+pub number-good : (text : List ℕ) (n : ℕ) → Some n ≡ number_of text → (is_number text ≡ true) × (n ≡ value text)
 unfolding number_of
-number-good text r n e q = (number-cases text (is_number text) refl r e).0 n q
+number-good text n e = let w = cond_some (is_number text) (value text) n (sym e) in (w.0, sym w.1)
 
-pub number-bad : (text : List ℕ) (r : Number) → r ≡ number_of text → r ≡ number.Bad → is_number text ≡ false
+pub number-bad : (text : List ℕ) → None ≡ number_of text → is_number text ≡ false
 unfolding number_of
-number-bad text r e q = (number-cases text (is_number text) refl r e).1 q
+number-bad text e = cond_none (is_number text) (value text) e
 
 pub in-range : (low x high : ℕ) → (leb low x && leb x high) ≡ true → (low ≤ x) × (x ≤ high)
 in-range low x high e = let h = both (leb low x) (leb x high) e in (leb-true low x h.0, leb-true x high h.1)
-
-pub digit-range : (x : ℕ) → is_digit x ≡ true → (48 ≤ x) × (x ≤ 57)
-unfolding is_digit
-digit-range x e = in-range 48 x 57 e

@@ -1,10 +1,7 @@
 -- The fields of a script line, as lists of bytes: which texts are read, and what each says. What a text says (`value`, `pairs_of`,
 -- `bytes_of`, `option_bytes`) counts only where it is read (`is_number`, `is_pairs`, `is_bytes`, `is_option`).
 use Rattle.std.specs.Prelude.{ℕ, ◌+◌, ◌-◌, ◌*◌, ◌^◌, ◌≤◌, ◌≡◌, Bool, true, false, cond, not, ◌&&◌, ◌||◌, List, [], ◌∷◌, ◌++◌, eqb, ltb, leb, length, get_or, take}
-use Rattle.script_fields.specs.declared.Number.{Number}
-use Rattle.script_fields.specs.declared.Number.TheVariants as number
-use Rattle.script_fields.specs.declared.Decoded.{Decoded}
-use Rattle.script_fields.specs.declared.Decoded.TheVariants as decoded
+use Rattle.std.specs.Prelude.{Option, Some, None, is_some, unwrap_or, MatchOption}
 
 -- ---- decimals
 
@@ -27,17 +24,21 @@ value text = value_from 0 text
 unfoldable pub is_number : List ℕ → Bool
 is_number text = ltb 0 (length text) && (all_digits text && ltb (value text) (2 ^ 64))
 
-unfoldable pub number_of : List ℕ → Number
-number_of text = cond (is_number text) (number.Value (value text)) number.Bad
+unfoldable pub number_of : List ℕ → Option ℕ
+number_of text = cond (is_number text) (Some (value text)) None
 
 -- ---- bytes in hex
 
--- The number of a lower-case hex digit; 16 for any other byte.
-unfoldable pub nibble : ℕ → ℕ
-nibble x = cond (leb 48 x && leb x 57) (x - 48) (cond (leb 97 x && leb x 102) (x - 87) 16)
+-- The number of a lower-case hex digit.
+unfoldable pub nibble : ℕ → Option ℕ
+nibble x = cond (leb 48 x && leb x 57) (Some (x - 48)) (cond (leb 97 x && leb x 102) (Some (x - 87)) None)
 
 unfoldable pub is_hex : ℕ → Bool
-is_hex x = not (eqb (nibble x) 16)
+is_hex x = is_some (nibble x)
+
+-- 16 for a byte that is no digit, which no text that is read has.
+unfoldable pub digit_value : ℕ → ℕ
+digit_value x = unwrap_or (nibble x) 16
 
 unfoldable pub is_pairs : List ℕ → Bool
 is_pairs [] = true
@@ -47,7 +48,7 @@ is_pairs (x ∷ y ∷ rest) = is_hex x && (is_hex y && is_pairs rest)
 unfoldable pub pairs_of : List ℕ → List ℕ
 pairs_of [] = []
 pairs_of (x ∷ []) = []
-pairs_of (x ∷ y ∷ rest) = (nibble x * 16 + nibble y) ∷ pairs_of rest
+pairs_of (x ∷ y ∷ rest) = (digit_value x * 16 + digit_value y) ∷ pairs_of rest
 
 -- The text is this one byte.
 unfoldable pub is_mark : List ℕ → ℕ → Bool
@@ -72,12 +73,12 @@ option_bytes text = cond (is_mark text 45) [] (bytes_of text)
 
 -- ---- what the readers answer
 
-unfoldable pub pairs_decoded : List ℕ → Decoded
-pairs_decoded text = cond (is_pairs text) (decoded.Bytes (length (pairs_of text))) decoded.Bad
+unfoldable pub pairs_decoded : List ℕ → Option ℕ
+pairs_decoded text = cond (is_pairs text) (Some (length (pairs_of text))) None
 
 -- The bytes stand at the start of the buffer, where the field is read.
-abbrev pub Filled : Decoded → List ℕ → List ℕ → Type 0
-Filled r bytes out = (n : ℕ) → r ≡ decoded.Bytes n → (n ≤ length out) × (take n out ≡ bytes)
+abbrev pub Filled : Option ℕ → List ℕ → List ℕ → Type 0
+Filled r bytes out = (n : ℕ) → r ≡ Some n → (n ≤ length out) × (take n out ≡ bytes)
 
 -- What a text says went to the buffer m from `at` on, up to n, in half of the text's room. What stood before is as it was.
 pub record Decodes (text m : List ℕ) (at : ℕ) (bytes m' : List ℕ) (n : ℕ) : Type 0 where
@@ -88,6 +89,5 @@ pub record Decodes (text m : List ℕ) (at : ℕ) (bytes m' : List ℕ) (n : ℕ
   pub is : take n m' ≡ take at m ++ bytes
 
 -- Where the text is good, it is decoded.
-pub record Reads (r : Decoded) (good : Bool) (text m : List ℕ) (at : ℕ) (bytes m' : List ℕ) : Type 0 where
-  pub read : (n : ℕ) → r ≡ decoded.Bytes n → (good ≡ true) × Decodes text m at bytes m' n
-  pub bad : r ≡ decoded.Bad → good ≡ false
+abbrev pub Reads : Option ℕ → Bool → List ℕ → List ℕ → ℕ → List ℕ → List ℕ → Type 0
+Reads r good text m at bytes m' = MatchOption r (good ≡ false) (λ n. (good ≡ true) × Decodes text m at bytes m' n)

@@ -32,13 +32,10 @@ pub fn print<'a>(
     let number = step.state.number;
     let bytes = answer_text::shown(answer, payload, upload, response);
     let at = answer_text::put_answer(out, step.at, number, answer, bytes);
-    let config = step.state.config;
     Step {
         state: State {
-            config,
             table,
-            number,
-            unreadable: step.state.unreadable,
+            ..step.state
         },
         at,
         written: step.written,
@@ -56,14 +53,10 @@ pub fn unread(step: Step, out: &mut [u8]) -> Step
     let state = step.state;
     let number = state.number;
     let at = answer_text::put_unreadable(out, step.at, number);
-    let config = state.config;
-    let table = state.table;
     Step {
         state: State {
-            config,
-            table,
-            number,
-            unreadable: std::num::wrapping_add_u64(state.unreadable, 1),
+            unreadable: state.unreadable.wrapping_add(1),
+            ..state
         },
         at,
         written: step.written,

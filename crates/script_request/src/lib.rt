@@ -1,7 +1,7 @@
 // A line that says a request: called, and its answer printed.
 #![tactic(auto)]
 
-ghost use Rattle.std.specs.Prelude.{◌+◌, ◌≤◌, length};
+ghost use Rattle.std.specs.Prelude.{◌+◌, ◌≤◌, length, Some};
 ghost use Rattle.script.specs.Line.{InBuffer};
 ghost use Rattle.script_print.specs.Run.{Ran};
 ghost use Rattle.script_request.specs.Asked.{asked};
@@ -20,7 +20,7 @@ pub fn ask<'a>(
     scratch: &'a [u8],
     out: &mut [u8],
 ) -> Step
-    requires in_buffer { InBuffer (Line.Request r) scratch.now × (length scratch.now ≤ memory_size) }
+    requires in_buffer { InBuffer (Some (Line.Request r)) scratch.now × (length scratch.now ≤ memory_size) }
     requires upload_len_bound { (length upload.old ≤ memory_size) × (length response.now ≤ memory_size) × (step.at + line_room ≤ length out.old) }
     ensures { Ran step upload.old response.now (asked r scratch.now) out.old result upload.new response.now out.new }
 {

@@ -1,7 +1,7 @@
 // A line that says a response: called, and its answer printed.
 #![tactic(auto)]
 
-ghost use Rattle.std.specs.Prelude.{◌+◌, ◌≤◌, length};
+ghost use Rattle.std.specs.Prelude.{◌+◌, ◌≤◌, length, Some};
 ghost use Rattle.script.specs.Line.{InBuffer};
 ghost use Rattle.script_print.specs.Run.{Ran};
 ghost use Rattle.script_response.specs.Replied.{replied};
@@ -20,7 +20,7 @@ pub fn reply<'a>(
     scratch: &'a [u8],
     out: &mut [u8],
 ) -> Step
-    requires in_buffer { InBuffer (Line.Response r) scratch.now × (length scratch.now ≤ memory_size) }
+    requires in_buffer { InBuffer (Some (Line.Response r)) scratch.now × (length scratch.now ≤ memory_size) }
     requires upload_len_bound { (length upload.now ≤ memory_size) × (length response.old ≤ memory_size) × (step.at + line_room ≤ length out.old) }
     ensures { Ran step upload.now response.old (replied r scratch.now) out.old result upload.now response.new out.new }
 {

@@ -17,7 +17,7 @@ pub struct State {
     pub unreadable: u64,
 }
 
-// What a line leaves, where the next output goes, and whether all output that is due was written.
+// What a line leaves, where the next output goes, and whether all output that is due was written. A step whose write failed is a step still: its state is told.
 #[derive(Clone, Copy)]
 pub struct Step {
     pub state: State,
@@ -49,12 +49,10 @@ pub fn start(out: &mut [u8]) -> Step
     ensures written_value { result.written ≡ true }
 {
     let at = pieces::put(out, 0, b"line answer block1 block2 bytes\n");
-    let table = block_table::fresh();
-    let config = script_config();
     Step {
         state: State {
-            config,
-            table,
+            config: script_config(),
+            table: block_table::fresh(),
             number: 0,
             unreadable: 0,
         },
@@ -67,18 +65,12 @@ pub fn start(out: &mut [u8]) -> Step
 pub fn counted(step: Step) -> Step
     ensures { result ≡ counted_in step }
 {
-    let state = step.state;
-    let config = state.config;
-    let table = state.table;
     Step {
         state: State {
-            config,
-            table,
-            number: std::num::wrapping_add_u64(state.number, 1),
-            unreadable: state.unreadable,
+            number: step.state.number.wrapping_add(1),
+            ..step.state
         },
-        at: step.at,
-        written: step.written,
+        ..step
     }
 }
 
@@ -87,10 +79,7 @@ fn print_on(written: bool, out: &[u8], at: usize) -> bool
     requires { at ≤ length out.now }
     ensures { written ≡ false → result ≡ false }
 {
-    if !written {
-        return false;
-    }
-    line_input::print(out, at)
+    written && line_input::print(out, at)
 }
 
 // Writes what waits, where it is more than so much. Once a write has failed nothing more is written.
@@ -104,10 +93,9 @@ pub fn flushed(out: &[u8], step: Step, most: usize) -> Step
         return step;
     }
     let written = print_on(step.written, out, step.at);
-    let state = step.state;
     Step {
-        state,
         at: 0,
         written,
+        ..step
     }
 }

@@ -8,15 +8,11 @@ use native.Mathlib.Numerals.{add-one}
 use native.Mathlib.Omega.{arith}
 use lib.Dec.{ltb}
 use lib.ListN.{length, get_or, set, take, length-append}
-use lib.Seq.{take-suc, take_all}
+use lib.Seq.{take-suc}
 use borrow.Author.Tests.{lt-ltb, le-ltb}
 use Rattle.pieces.specs.Memory.{Put}
-use Rattle.pieces.proofs.Puts.{put_as, put-bound, put-length, put-none, put_one, put_then}
-use Rattle.block_value.specs.Value.{block_size}
-use Rattle.block_value.specs.declared.BlockValue.{BlockValue}
-use Rattle.negotiation.specs.declared.MaybeBlock.{MaybeBlock}
-use Rattle.negotiation.specs.declared.MaybeBlock.TheVariants.{Absent, Given}
-use Rattle.script_text.specs.Text.{decimal_from, decimal, hex_digit, hex, shown, digit_of, block_text, maybe_text}
+use Rattle.pieces.proofs.Puts.{put-length, put-none, put_one, put_then}
+use Rattle.script_text.specs.Text.{decimal_from, decimal, hex_digit, hex, shown}
 
 -- ---- decimals
 
@@ -96,11 +92,6 @@ hexed-turn m at bytes m' i k x y f h w ex ey =
       put = rw (← e, ← s) (put_then h.put (put_then p q));
     }
 
-pub hexed-done : (m : List ℕ) (at : ℕ) (bytes m' : List ℕ) (i k : ℕ) → Hexed m at bytes m' i k → length bytes ≤ i → Put m at (hex bytes) m' k × (k ≡ at + 2 * length bytes)
-hexed-done m at bytes m' i k h l =
-    let e : take i bytes ≡ bytes = take_all i bytes l in
-    (rw e at h.put, omega (arith, h.place, h.within))
-
 -- ---- bytes that are shown
 
 empty : (xs : List ℕ) → length xs ≡ 0 → xs ≡ []
@@ -120,24 +111,3 @@ pub shown-length : (xs : List ℕ) → length (shown xs) ≤ 2 * length xs + 1
 unfolding shown
 shown-length [] = omega arith
 shown-length (x ∷ xs) = omega (arith, hex-length (x ∷ xs))
-
--- ---- block values
-
-pub block-length : (b : BlockValue) → length (block_text b) ≤ 43
-unfolding block_text
-block-length b = rw (length-append (decimal b.num) (47 ∷ digit_of b.more ∷ 47 ∷ decimal (block_size b))) (omega (arith, decimal-length b.num, decimal-length (block_size b)))
-
-pub block_written : (b : BlockValue) (d s : ℕ) → d ≡ digit_of b.more → s ≡ block_size b → decimal b.num ++ (47 ∷ d ∷ 47 ∷ decimal s) ≡ block_text b
-unfolding block_text
-block_written b d s e f = rw (e, f)
-
-pub maybe-length : (b : MaybeBlock) → length (maybe_text b) ≤ 50
-maybe-length Absent = omega arith
-maybe-length (Given b) = omega (arith, block-length b)
-
--- ---- what is written, once it is known what of
-
--- where a is known to be x, the text of x that was put is the text of a, and reaches no further than its length
-pub written : {A : Type 0} {m : List ℕ} {at : ℕ} {b m' : List ℕ} {r : ℕ} {a x : A} (text : A → List ℕ) (n : ℕ) → ((y : A) → length (text y) ≤ n)
-    → Put m at b m' r → a ≡ x → b ≡ text x → Put m at (text a) m' r × (r ≤ at + n)
-written {a = a} text n short p e h = let q = put_as p (h ∙ sym (ap text e)) in (q, put-bound n q (short a))

@@ -1,9 +1,7 @@
 -- What is written: decimals, hex and block values.
-use Rattle.std.specs.Prelude.{ℕ, zero, suc, ◌+◌, ◌/◌, ◌%◌, Bool, cond, List, [], ◌∷◌, ◌++◌, ltb}
+use Rattle.std.specs.Prelude.{ℕ, zero, suc, ◌+◌, ◌/◌, ◌%◌, Bool, cond, List, [], ◌∷◌, ◌++◌, ltb, Option, Some, None}
 use Rattle.block_value.specs.Value.{block_size}
 use Rattle.block_value.specs.declared.BlockValue.{BlockValue}
-use Rattle.negotiation.specs.declared.MaybeBlock.{MaybeBlock}
-use Rattle.negotiation.specs.declared.MaybeBlock.TheVariants.{Absent, Given}
 
 -- The decimal digits of n, at most as many as the first number says.
 unfoldable pub decimal_from : ℕ → ℕ → List ℕ
@@ -36,6 +34,6 @@ block_text b = decimal b.num ++ (47 ∷ digit_of b.more ∷ 47 ∷ decimal (bloc
 abbrev pub none : List ℕ
 none = 45 ∷ []
 
-abbrev pub maybe_text : MaybeBlock → List ℕ
-maybe_text Absent = none
-maybe_text (Given b) = block_text b
+abbrev pub maybe_text : Option BlockValue → List ℕ
+maybe_text None = none
+maybe_text (Some b) = block_text b

@@ -6,12 +6,11 @@ ghost use Rattle.pieces.specs.Memory.{Put};
 ghost use Rattle.script_text.specs.Text.{decimal, hex_digit, hex, shown, block_text, maybe_text, digit_of};
 
 use block_value::BlockValue;
-use negotiation::MaybeBlock;
 
 fn last_digit(n: u64) -> u8
     ensures { result ≡ 48 + n % 10 }
 {
-    48 + (n % 10) as u8
+    b'0' + (n % 10) as u8
 }
 
 // The digits before the last come first, so no digit moves.
@@ -27,14 +26,12 @@ pub fn put_decimal(out: &mut [u8], at: usize, n: u64) -> usize
     pieces::put_byte(out, next, last_digit(n))
 }
 
+#[tactic(auto, using(std::proofs::lemmas::Bool::Decides::nat_tests), unfolding(crate::specs::Text::hex_digit))]
 fn hex_digit(d: u8) -> u8
     requires { d < 16 }
     ensures { result ≡ hex_digit d }
 {
-    if d < 10 {
-        return 48 + d;
-    }
-    87 + d
+    if d < 10 { b'0' + d } else { b'a' + (d - 10) }
 }
 
 pub fn put_hex(out: &mut [u8], at: usize, bytes: &[u8]) -> usize
@@ -42,14 +39,11 @@ pub fn put_hex(out: &mut [u8], at: usize, bytes: &[u8]) -> usize
     ensures put { Put out.old at (hex bytes.now) out.new result }
     ensures value { result ≡ at + 2 * length bytes.now }
 {
-    let mut i: usize = 0;
     let mut k = at;
-    while i < bytes.len() {
-        let b = bytes[i];
-        out[k] = hex_digit(b / 16);
-        out[k + 1] = hex_digit(b % 16);
+    for b in bytes {
+        out[k] = hex_digit(*b / 16);
+        out[k + 1] = hex_digit(*b % 16);
         k += 2;
-        i += 1;
     }
     k
 }
@@ -60,12 +54,13 @@ pub fn put_shown(out: &mut [u8], at: usize, bytes: &[u8]) -> usize
     ensures put { Put out.old at (shown bytes.now) out.new result }
     ensures upper_bound { result ≤ at + 2 * length bytes.now + 1 }
 {
-    if bytes.len() == 0 {
+    if bytes.is_empty() {
         return pieces::put_byte(out, at, b'.');
     }
     put_hex(out, at, bytes)
 }
 
+#[tactic(auto, unfolding(crate::specs::Text::digit_of))]
 fn digit_of(b: bool) -> u8
     ensures { result ≡ digit_of b }
 {
@@ -79,19 +74,19 @@ fn put_block(out: &mut [u8], at: usize, block: BlockValue) -> usize
     ensures upper_bound { result ≤ at + 50 }
 {
     let more = [b'/', digit_of(block.more), b'/'];
-    let k = put_decimal(out, at, block.num as u64);
+    let k = put_decimal(out, at, u64::from(block.num));
     let k = pieces::put(out, k, &more);
     put_decimal(out, k, block_value::size(block) as u64)
 }
 
 // A block value, or a dash.
-pub fn put_maybe(out: &mut [u8], at: usize, block: MaybeBlock) -> usize
+pub fn put_maybe(out: &mut [u8], at: usize, block: Option<BlockValue>) -> usize
     requires { at + 50 ≤ length out.old }
     ensures put { Put out.old at (maybe_text block) out.new result }
     ensures upper_bound { result ≤ at + 50 }
 {
     match block {
-        MaybeBlock::Given(b) => put_block(out, at, b),
-        MaybeBlock::Absent => pieces::put_byte(out, at, b'-'),
+        Some(b) => put_block(out, at, b),
+        None => pieces::put_byte(out, at, b'-'),
     }
 }

@@ -1,4 +1,5 @@
 -- The laws of the splice: what the code's steps leave, the answer by its cases, and the next block in order. Assumes nothing.
+use Rattle.std.specs.Prelude.{Ok, Err}
 use mathlib.Core.Path.{◌≡◌, refl, ap, ◌∙◌}
 use mathlib.Core.Bool.{Bool, true, false}
 use mathlib.Core.List.{List, [], ◌++◌, append_assoc, append-nil}
@@ -9,7 +10,7 @@ use lib.Dec.{ltb}
 use lib.ListN.{length, take, drop, replicate, length-append, length-take, length-drop, length-replicate, drop_of_length-le}
 use lib.Seq.{take_all, take-take, take-add, drop_at, length-take-le}
 use borrow.Author.Tests.{lt-ltb, le-ltb, ltb-true, ltb-false}
-use Rattle.splicing.specs.declared.Splice.TheVariants.{Body, Refused}
+use Rattle.refusal.specs.declared.Refusal.TheVariants.{Jump, NoRoom}
 use Rattle.pieces.specs.Memory.{patch, part}
 use Rattle.splicing.specs.Splice.{spliced, spliced_length, splice_of, piece_after, room_in}
 use Rattle.pieces.proofs.Memory.{patch-after, patch-front}
@@ -80,20 +81,20 @@ module _ (m : List ℕ) (l a s : ℕ) (p : List ℕ) (f : l ≤ length m) where
 -- ---- the answer, by its cases
 
 module _ (u l a s p : ℕ) where
-  pub too_far : 16384 < a + s - l → splice_of u l a s p ≡ Refused 6
+  pub too_far : 16384 < a + s - l → splice_of u l a s p ≡ Err Jump
   unfolding splice_of
   too_far h = rw (lt-ltb 16384 (a + s - l) h)
 
-  pub too_small : a + s - l ≤ 16384 → u < spliced_length l a s p → splice_of u l a s p ≡ Refused 7
+  pub too_small : a + s - l ≤ 16384 → u < spliced_length l a s p → splice_of u l a s p ≡ Err NoRoom
   unfolding splice_of
   too_small h k = rw (le-ltb 16384 (a + s - l) h, lt-ltb u (spliced_length l a s p) k)
 
-  pub taken : a + s - l ≤ 16384 → spliced_length l a s p ≤ u → splice_of u l a s p ≡ Body (spliced_length l a s p)
+  pub taken : a + s - l ≤ 16384 → spliced_length l a s p ≤ u → splice_of u l a s p ≡ Ok (spliced_length l a s p)
   unfolding splice_of
   taken h k = rw (le-ltb 16384 (a + s - l) h, le-ltb u (spliced_length l a s p) k)
 
   -- a splice that is taken has the length that the document says, fits, and does not jump too far
-  pub taken_is : (n : ℕ) → splice_of u l a s p ≡ Body n → (n ≡ spliced_length l a s p) × (n ≤ u) × (a + s - l ≤ 16384)
+  pub taken_is : (n : ℕ) → splice_of u l a s p ≡ Ok n → (n ≡ spliced_length l a s p) × (n ≤ u) × (a + s - l ≤ 16384)
   taken_is n e = go (ltb 16384 (a + s - l)) (ltb u (spliced_length l a s p)) refl refl
     where
       go : (f g : Bool) → ltb 16384 (a + s - l) ≡ f → ltb u (spliced_length l a s p) ≡ g

@@ -1,8 +1,8 @@
 -- Document 01, "Splice": L bytes are assembled at the start of a piece of U bytes; a block of size s starts at a; its payload has p bytes.
-use Rattle.std.specs.Prelude.{ℕ, ◌+◌, ◌-◌, max, cond, List, ◌++◌, ltb, length, take, drop, replicate}
+use Rattle.std.specs.Prelude.{ℕ, ◌+◌, ◌-◌, max, cond, List, ◌++◌, ltb, length, take, drop, replicate, Result, Ok, Err}
+use Rattle.refusal.specs.declared.Refusal.{Refusal}
+use Rattle.refusal.specs.declared.Refusal.TheVariants.{Jump, NoRoom}
 use Rattle.pieces.specs.Memory.{patch, part}
-use Rattle.splicing.specs.declared.Splice.{Splice}
-use Rattle.splicing.specs.declared.Splice.TheVariants.{Body, Refused}
 
 -- "Old bytes before a (zeros where a > L), the payload, old bytes from e on", where e = a + s.
 unfoldable pub spliced : List ℕ → ℕ → ℕ → List ℕ → List ℕ
@@ -13,20 +13,20 @@ abbrev pub spliced_length : ℕ → ℕ → ℕ → ℕ → ℕ
 spliced_length l a s p = max l (a + s) - s + p
 
 -- "If e - L > 16,384: refusal 6. .. Its length .. above U: refusal 7."
-unfoldable pub splice_of : ℕ → ℕ → ℕ → ℕ → ℕ → Splice
+unfoldable pub splice_of : ℕ → ℕ → ℕ → ℕ → ℕ → Result ℕ Refusal
 splice_of u l a s p =
-    cond (ltb 16384 (a + s - l)) (Refused 6)
-    (cond (ltb u (spliced_length l a s p)) (Refused 7)
-    (Body (spliced_length l a s p)))
+    cond (ltb 16384 (a + s - l)) (Err Jump)
+    (cond (ltb u (spliced_length l a s p)) (Err NoRoom)
+    (Ok (spliced_length l a s p)))
 
 -- The piece with the new body at its start: "bytes past the new length keep what they held before the call".
 unfoldable pub piece_after : List ℕ → ℕ → ℕ → ℕ → List ℕ → List ℕ
 piece_after piece l a s payload = patch piece 0 (spliced (take l piece) a s payload)
 
 -- What an answer leaves of the piece: a refusal leaves all of it.
-abbrev pub left_by : Splice → List ℕ → ℕ → ℕ → ℕ → List ℕ → List ℕ
-left_by (Refused n) piece l a s payload = piece
-left_by (Body n) piece l a s payload = piece_after piece l a s payload
+abbrev pub left_by : Result ℕ Refusal → List ℕ → ℕ → ℕ → ℕ → List ℕ → List ℕ
+left_by (Err n) piece l a s payload = piece
+left_by (Ok n) piece l a s payload = piece_after piece l a s payload
 
 -- ---- How the code makes a splice. No contract of `extending_splice` cites this.
 

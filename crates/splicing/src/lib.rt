@@ -4,16 +4,10 @@
 ghost use Rattle.std.specs.Prelude.{◌≡◌, ◌+◌, ◌-◌, ◌^◌, ◌≤◌, ◌<◌, max, length};
 ghost use Rattle.splicing.specs.Splice.{spliced_length, splice_of, piece_after, left_by, room_in};
 
+use refusal::Refusal;
+
 // The most that a block may end past what is assembled.
 const MAXIMUM_UNCOMMITTED_BUFFER_RESERVE_LENGTH: usize = 16384;
-
-// What a splice answers.
-#[derive(Clone, Copy)]
-pub enum Splice {
-    // The new length of the body.
-    Body(usize),
-    Refused(u8),
-}
 
 // Makes room for a payload that stands from at on up to the index to, in place of the bytes up to end: of the first len bytes, those from end on are moved to where
 // it ends; where it starts past them, zeros stand between.
@@ -43,54 +37,41 @@ fn replace(piece: &mut [u8], len: usize, at: usize, size: usize, payload: &[u8])
     pieces::copy_in(piece, at, payload);
 }
 
-fn larger(x: usize, y: usize) -> usize
-    ensures { result ≡ max x y }
-{
-    if x < y {
-        return y;
-    }
-    x
-}
-
-// The answer, which is one of numbers alone: of room bytes len are assembled, and the payload has p.
-fn splice_of(room: usize, len: usize, at: usize, size: usize, p: usize) -> Splice
+// The new length of the body, by numbers alone: of room bytes len are assembled, and the payload has p.
+fn splice_of(room: usize, len: usize, at: usize, size: usize, p: usize) -> Result<usize, Refusal>
     requires { len < 2 ^ 63 }
     ensures { result ≡ splice_of room len at size p }
 {
     let reach = len + MAXIMUM_UNCOMMITTED_BUFFER_RESERVE_LENGTH;
     if reach < size {
-        return Splice::Refused(6);
+        return Err(Refusal::Jump);
     }
     if reach - size < at {
-        return Splice::Refused(6);
+        return Err(Refusal::Jump);
     }
-    let kept = larger(len, at + size) - size;
+    let kept = len.max(at + size) - size;
     if room < kept {
-        return Splice::Refused(7);
+        return Err(Refusal::NoRoom);
     }
     if room - kept < p {
-        return Splice::Refused(7);
+        return Err(Refusal::NoRoom);
     }
-    Splice::Body(kept + p)
+    Ok(kept + p)
 }
 
-// Splices a block's payload into the piece, of which the first len bytes are assembled. A refusal changes nothing.
+// Splices a block's payload into the piece, of which the first len bytes are assembled, and answers the new length of the body. A refusal changes nothing.
 pub fn extending_splice(
     piece: &mut [u8],
     len: usize,
     at: usize,
     size: usize,
     payload: &[u8],
-) -> Splice
+) -> Result<usize, Refusal>
     requires { len ≤ length piece.old }
     ensures value { result ≡ splice_of (length piece.old) len at size (length payload.now) }
     ensures piece_after { piece.new ≡ left_by result piece.old len at size payload.now }
 {
-    match splice_of(piece.len(), len, at, size, payload.len()) {
-        Splice::Refused(n) => Splice::Refused(n),
-        Splice::Body(n) => {
-            replace(piece, len, at, size, payload);
-            Splice::Body(n)
-        }
-    }
+    let n = splice_of(piece.len(), len, at, size, payload.len())?;
+    replace(piece, len, at, size, payload);
+    Ok(n)
 }

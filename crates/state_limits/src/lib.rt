@@ -9,7 +9,7 @@ use block_state::{Assembled, BlockState, Cached, Recorded};
 use config::Config;
 
 // What is found where something may be off its limits: whether it is within them, and how many bytes it holds, which are below 2^34 even off them. One look
-// gives both, since a call has to look at every entry.
+// gives both, since a call has to look at every entry. Not an `Option`, since the bytes are counted off the limits, too.
 #[derive(Clone, Copy)]
 pub struct Checked {
     pub ok: bool,
@@ -19,7 +19,7 @@ pub struct Checked {
 fn assembled_ok(config: Config, assembled: Assembled) -> bool
     ensures { result ≡ assembled_ok config assembled }
 {
-    (wide::usize_of_u32(assembled.len) <= config.upload)
+    (assembled.len as usize <= config.upload)
         & (assembled.exponent <= 7)
         & ((assembled.len != 0) | (assembled.exponent == 0))
 }
@@ -28,7 +28,7 @@ fn assembled_ok(config: Config, assembled: Assembled) -> bool
 fn cached_bytes(cached: Cached) -> u64
     ensures { (result ≡ cached.head + cached.payload) × (result < 2 ^ 33) }
 {
-    wide::u64_of_u8(cached.head) + wide::u64_of_u32(cached.payload)
+    u64::from(cached.head) + u64::from(cached.payload)
 }
 
 fn cached_checked(config: Config, cached: Cached) -> Checked
@@ -37,7 +37,7 @@ fn cached_checked(config: Config, cached: Cached) -> Checked
     if cached.held {
         let bytes = cached_bytes(cached);
         return Checked {
-            ok: (cached.head <= 128) & (bytes <= wide::u64_of_usize(config.response)),
+            ok: (cached.head <= 128) & (bytes <= config.response as u64),
             bytes,
         };
     }
@@ -59,31 +59,26 @@ fn recorded_ok(recorded: Recorded) -> bool
 pub fn state_checked(config: Config, state: BlockState) -> Checked
     ensures { (result.ok ≡ state_ok config state) × (result.bytes ≡ held_of state) × (result.bytes < 2 ^ 34) }
 {
-    let assembled = state.assembled;
-    let cached = state.cached;
-    let recorded = state.recorded;
-    let held = cached_checked(config, cached);
+    let held = cached_checked(config, state.cached);
     Checked {
-        ok: assembled_ok(config, assembled) & held.ok & recorded_ok(recorded),
-        bytes: wide::u64_of_u32(assembled.len) + held.bytes,
+        ok: assembled_ok(config, state.assembled) & held.ok & recorded_ok(state.recorded),
+        bytes: u64::from(state.assembled.len) + held.bytes,
     }
 }
 
 pub fn state_ok(config: Config, state: BlockState) -> bool
     ensures { result ≡ state_ok config state }
 {
-    let checked = state_checked(config, state);
-    checked.ok
+    state_checked(config, state).ok
 }
 
 // What a state holds, which is below 2^34 even off its limits.
 pub fn held_of(state: BlockState) -> u64
     ensures { (result ≡ held_of state) × (result < 2 ^ 34) }
 {
-    let cached = state.cached;
-    let assembled = wide::u64_of_u32(state.assembled.len);
-    if cached.held {
-        return assembled + cached_bytes(cached);
+    let assembled = u64::from(state.assembled.len);
+    if state.cached.held {
+        return assembled + cached_bytes(state.cached);
     }
     assembled
 }
@@ -92,13 +87,5 @@ pub fn held_of(state: BlockState) -> u64
 pub fn is_nothing(state: BlockState) -> bool
     ensures { result ≡ is_nothing state }
 {
-    (state.assembled.len == 0)
-        & (state.assembled.exponent == 0)
-        & !state.cached.held
-        & (state.cached.head == 0)
-        & (state.cached.payload == 0)
-        & !state.recorded.given
-        & (state.recorded.num == 0)
-        & !state.recorded.more
-        & (state.recorded.exponent == 0)
+    state == BlockState::default()
 }

@@ -1,5 +1,5 @@
 -- The number of a memory, and the numbers of both as a line has them.
-use Rattle.std.specs.Prelude.{ℕ, ◌+◌, ◌*◌, ◌/◌, ◌%◌, ◌^◌, List, [], ◌∷◌, ◌++◌, bit_xor}
+use Rattle.std.specs.Prelude.{ℕ, ◌+◌, ◌*◌, ◌/◌, ◌%◌, ◌^◌, [], ◌∷◌, ◌++◌, bit_xor}
 use Rattle.script_cut.specs.Cut.{Bytes}
 use Rattle.script_text.specs.Text.{hex}
 

@@ -32,11 +32,8 @@ fn put_entries(out: &mut [u8], at: usize, entries: [Entry; 16]) -> usize
     ensures upper_bound { result ≤ at + 6500 }
 {
     let mut k = at;
-    let mut i: usize = 0;
-    while i < 16 {
-        let e = entries[i];
-        k = put_next(out, at, k, wide::u64_of_usize(i), e);
-        i += 1;
+    for (i, e) in entries.iter().enumerate() {
+        k = put_next(out, at, k, i as u64, *e);
     }
     if k == at {
         return pieces::put_byte(out, k, b'-');
@@ -72,9 +69,8 @@ pub fn put_state<'a>(
     ensures put { Put out.old at (state_text n table upload.now response.now) out.new result }
     ensures upper_bound { result ≤ at + 7000 }
 {
-    let entries = table.entries;
     let k = put_numbers(out, at, n, table);
-    let k = put_entries(out, k, entries);
+    let k = put_entries(out, k, table.entries);
     let k = pieces::put_byte(out, k, b' ');
     memory::put_memories(out, k, upload, response)
 }

@@ -1,27 +1,18 @@
 // The numbers of both memories, as the line of the state has them.
 ghost use Rattle.std.specs.Prelude.{◌≡◌, ◌+◌, ◌≤◌, length};
 ghost use Rattle.pieces.specs.Memory.{Put};
-ghost use Rattle.state_text.specs.Memory.{times_prime, fnv_of, word_text, memories_text};
+ghost use Rattle.state_text.specs.Memory.{fnv_of, word_text, memories_text};
 
-// Times the prime 2^40 + 435, modulo 2^64, in parts that fit 64 bits.
-fn times_prime(h: u64) -> u64
-    ensures { result ≡ times_prime h }
-{
-    let top = h % 16777216 * 1099511627776;
-    let high = h / 4294967296 * 435 % 4294967296 * 4294967296;
-    let low = h % 4294967296 * 435;
-    std::num::wrapping_add_u64(std::num::wrapping_add_u64(top, high), low)
-}
+// FNV's prime, 2^40 + 435.
+const PRIME: u64 = 1099511628211;
 
 // The 64-bit FNV-1a of some bytes.
 fn fnv(bytes: &[u8]) -> u64
     ensures { result ≡ fnv_of bytes.now }
 {
     let mut h: u64 = 14695981039346656037;
-    let mut i = 0;
-    while i < bytes.len() {
-        h = times_prime(h ^ wide::u64_of_u8(bytes[i]));
-        i += 1;
+    for b in bytes {
+        h = (h ^ u64::from(*b)).wrapping_mul(PRIME);
     }
     h
 }
@@ -32,16 +23,7 @@ fn put_word(out: &mut [u8], at: usize, x: u64) -> usize
     ensures put { Put out.old at (word_text x) out.new result }
     ensures value { result ≡ at + 16 }
 {
-    let bytes = [
-        (x / 72057594037927936 % 256) as u8,
-        (x / 281474976710656 % 256) as u8,
-        (x / 1099511627776 % 256) as u8,
-        (x / 4294967296 % 256) as u8,
-        (x / 16777216 % 256) as u8,
-        (x / 65536 % 256) as u8,
-        (x / 256 % 256) as u8,
-        (x % 256) as u8,
-    ];
+    let bytes = x.to_be_bytes();
     script_text::put_hex(out, at, &bytes)
 }
 

@@ -1,5 +1,6 @@
 -- What a call changes of a table.
 use Rattle.std.specs.Prelude.{ℕ, ◌+◌, false, cond}
+use Rattle.refusal.specs.declared.Refusal.{Refusal}
 use Rattle.block_state.specs.declared.Answer.TheVariants.{Refused}
 use Rattle.block_state.specs.declared.Stepped.{Stepped}
 use Rattle.keys.specs.declared.Key.{Key}
@@ -18,7 +19,7 @@ changed lifetime time t g = figured g.clock g.held (cond g.freed (sweep lifetime
 -- ---- How the code makes a change. No contract of the handler's two calls, nor of an export, cites these.
 
 -- What a refusal by checks 1 to 3 changes of the table that was seen: nothing, since the entry that is seen goes back where it stood.
-abbrev pub unchanged : Sight → ℕ → Change
+abbrev pub unchanged : Sight → Refusal → Change
 unchanged s n = record { freed = false; clock = s.clock; held = s.held; at = s.at; entry = s.entry; answer = Refused n }
 
 -- The entry that a call on the key starts from, of the one at its place before the sweep.

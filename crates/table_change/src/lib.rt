@@ -10,6 +10,7 @@ use config::Config;
 use entries::Entry;
 use keys::Key;
 use places::Sight;
+use refusal::Refusal;
 
 // The entries that are not live may have to be freed, the clock is set, and one entry is put in its place; then the table holds so many bytes.
 #[derive(Clone, Copy)]
@@ -23,11 +24,11 @@ pub struct Change {
 }
 
 // A refusal by checks 1 to 3 changes nothing: the entry that is seen is put back where it stood.
-pub fn refused(sight: Sight, n: u8) -> Change
-    ensures { result ≡ unchanged sight n }
+pub fn refused(sight: Sight, why: Refusal) -> Change
+    ensures { result ≡ unchanged sight why }
 {
     let entry = sight.entry;
-    let answer = Answer::Refused(n);
+    let answer = Answer::Refused(why);
     Change {
         freed: false,
         clock: sight.clock,
@@ -53,10 +54,10 @@ pub fn leave(sight: Sight, i: usize, time: u64, key: Key, step: Stepped) -> Chan
 {
     let state = step.state;
     let entry = Entry {
-        key: key,
+        key,
         used: true,
         touched: time,
-        state: state,
+        state,
     };
     let answer = step.answer;
     Change {

@@ -4,24 +4,14 @@
 ghost use Rattle.std.specs.Prelude.{◌≡◌, cond, ◌+◌, ◌*◌, ◌/◌, ◌%◌, ◌≤◌, ◌<◌, eqb};
 ghost use Rattle.tags.specs.Tags.{folded, times, pairs};
 
-fn mixed(high: u64, low: u64) -> u32
-    requires { (high < 4294967296) × (low < 4294967296) }
-    ensures { result ≡ (high * 1812433253 + low * 974711381) / 33554432 % 2147483648 * 2 + 1 }
-{
-    ((high * 1812433253 + low * 974711381) / 33554432 % 2147483648) as u32 * 2 + 1
-}
-
 // Odd, so that even numbers are left for entries without a key.
 pub fn fold(d: u64) -> u32
     ensures { result ≡ folded d }
 {
-    mixed(d / 4294967296, d % 4294967296)
-}
-
-fn one(x: u32, d: u32) -> u32
-    ensures { (result ≡ cond (eqb x d) 1 0) × (result ≤ 1) }
-{
-    if x == d { 1 } else { 0 }
+    let high = d >> 32;
+    let low = d % (1 << 32);
+    let mixed = high * 1812433253 + low * 974711381;
+    ((mixed >> 25) % (1 << 31)) as u32 * 2 + 1
 }
 
 // How often d stands in the row.
@@ -29,10 +19,8 @@ fn count(d: u32, row: [u32; 16]) -> u32
     ensures { (result ≡ times d row) × (result ≤ 16) }
 {
     let mut n = 0;
-    let mut i = 0;
-    while i < 16 {
-        n += one(row[i], d);
-        i += 1;
+    for &x in &row {
+        n += u32::from(x == d);
     }
     n
 }
@@ -42,11 +30,8 @@ pub fn apart(row: [u32; 16]) -> bool
     ensures { result ≡ eqb (pairs row row) 16 }
 {
     let mut n = 0;
-    let mut i = 0;
-    while i < 16 {
-        let d = row[i];
+    for &d in &row {
         n += count(d, row);
-        i += 1;
     }
     n == 16
 }

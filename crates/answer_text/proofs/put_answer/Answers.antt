@@ -1,7 +1,6 @@
 use native.Mathlib.Omega.{arith}
 use Rattle.pieces.proofs.Puts.{put_as, put_then}
 use Rattle.answer_text.specs.Answer.{line_text}
-use borrow.Author.Rules.{rules}
 use Rattle.answer_text.proofs.put_answer.Goals as goal
 
 pub returns : goal.returns
@@ -10,7 +9,7 @@ returns c =
     let line = put_then c.put_blocks-k.ensures.put (put_then c.put_bytes-k.ensures.put c.put_byte.ensures) in
     record {
       put = put_as (put_then c.put_decimal-k.ensures.put (put_then c.put_byte-k.ensures (put_then c.put_name-k.ensures.put line)))
-          (rw (c.kind_number.ensures, c.said-s.ensures));
+          (rw c.said-s.ensures);
       upper_bound = omega (
         arith,
         c.put_decimal-k.ensures.upper_bound,

@@ -1,7 +1,6 @@
 use native.Mathlib.Omega.{arith}
 use Rattle.pieces.proofs.Puts.{put_then}
 use Rattle.answer_text.specs.Answer.{unreadable_text}
-use borrow.Author.Rules.{rules}
 use Rattle.answer_text.proofs.put_unreadable.Goals as goal
 
 pub returns : goal.returns

@@ -1,12 +1,7 @@
 use mathlib.Core.Path.{◌≡◌}
-use Prim.Native.Nat.{◌≤◌}
-use lib.ListN.{length}
 use Rattle.pieces.specs.Memory.{patch}
 use Rattle.big_endian.specs.Numbers.{in_bytes}
 use Rattle.big_endian.proofs.put_number.Given as goal
 
 abbrev pub invariant-loop-i : goal.invariant-loop-i
-invariant-loop-i l = (l.i ≤ l.k) × (length l.out ≡ length l.initial.out) × (patch l.out l.at (in_bytes l.i l.left) ≡ patch l.initial.out l.at (in_bytes l.k l.n))
-
-abbrev pub decreases-loop-i : goal.decreases-loop-i
-decreases-loop-i l = l.i
+invariant-loop-i l = patch l.out l.at (in_bytes l.i l.left) ≡ patch l.initial.out l.at (in_bytes l.k l.n)

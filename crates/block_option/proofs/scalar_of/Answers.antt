@@ -1,23 +1,12 @@
-use Prim.Native.Nat.{◌-◌}
 use native.Mathlib.Omega.{arith}
-use lib.ListN.{length}
-use Rattle.block_option.proofs.Laws.{Upto, upto-start, upto_next, upto_done, upto-small}
-use borrow.Author.Rules.{rules}
+use Rattle.block_option.proofs.Laws.{upto-start, upto_next, upto-small}
 use Rattle.block_option.proofs.scalar_of.Goals as goal
 
-pub loop-i-init : goal.loop-i-init
-loop-i-init c = upto-start _
+pub loop-byte-init : goal.loop-byte-init
+loop-byte-init c = upto-start _
 
 pub overflow_mul-scalar : goal.overflow_mul-scalar
-overflow_mul-scalar c = let small = upto-small _ _ _ c.loop-i.invariant c.loop-i-test.true c.requires in omega arith
+overflow_mul-scalar c = let small = upto-small _ _ _ c.loop-byte.invariant c.loop-byte-test.true c.requires in omega arith
 
-pub overflow_add-scalar : goal.overflow_add-scalar
-overflow_add-scalar c =
-    let small = upto-small _ _ _ c.loop-i.invariant c.loop-i-test.true c.requires in
-    omega arith
-
-pub loop-i-preserved : goal.loop-i-preserved
-loop-i-preserved c = upto_next _ _ _ c.loop-i.invariant _ c.loop-i-test.true c.u32_of_u8.ensures.0 c.u32_of_u8.ensures.1
-
-pub returns : goal.returns
-returns c = upto_done _ _ _ c.loop-i.invariant c.loop-i-test.false
+pub loop-byte-preserved : goal.loop-byte-preserved
+loop-byte-preserved c = upto_next _ _ _ c.loop-byte.invariant _ c.loop-byte-test.true c.from.ensures (omega (arith, c.from.ensures, c.type_inv.option c.loop-byte.byte-index))

@@ -1,7 +1,6 @@
 use mathlib.Core.Path.{sym, ap}
 use Rattle.block_option.specs.Option.{in_three}
 use Rattle.block_option.proofs.Laws.{short-0, short-1, short-2, short-3}
-use borrow.Author.Rules.{rules}
 use Rattle.block_option.proofs.write.Goals as goal
 
 pub returns-then-scalar-eq0 : goal.returns-then-scalar-eq0

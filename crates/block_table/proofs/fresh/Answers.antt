@@ -3,4 +3,4 @@ use Rattle.block_table.proofs.fresh.Goals as goal
 
 pub returns : goal.returns
 unfolding held held_by
-returns c = rw c.free_entry-e.ensures
+returns c = rw c.free_entry.ensures

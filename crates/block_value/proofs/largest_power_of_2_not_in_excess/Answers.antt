@@ -1,16 +1,10 @@
-use mathlib.Core.Path.{◌≡◌, refl, sym, ap, ◌∙◌}
-use Prim.Native.Nat.{ℕ, ◌+◌, ◌-◌, ◌*◌, ◌^◌, ◌≤◌, ◌<◌}
+use mathlib.Core.Path.{◌≡◌, sym, ap, ◌∙◌}
+use Prim.Native.Nat.{ℕ, ◌+◌, ◌*◌, ◌^◌, ◌≤◌}
 use native.Mathlib.Nat.{pow-suc}
 use native.Mathlib.Numerals.{add-one}
 use native.Mathlib.Omega.{arith}
 use Rattle.block_value.proofs.Laws.{largest-is, exponent-most}
 use Rattle.block_value.proofs.largest_power_of_2_not_in_excess.Goals as goal
-
-pub loop-power-init : goal.loop-power-init
-loop-power-init c = (refl, omega arith, omega arith)
-
-pub loop-power-preserved : goal.loop-power-preserved
-loop-power-preserved c = (ap (λ (n : ℕ). n * 2) c.loop-power.invariant.0 ∙ sym (pow-suc 2 c.loop-power.exponent) ∙ ap (λ (n : ℕ). 2 ^ n) (sym (add-one c.loop-power.exponent)), omega arith, omega arith)
 
 pub returns : goal.returns
 returns c =

@@ -1,8 +1,6 @@
 use mathlib.Core.Path.{sym}
-use Prim.Native.Nat.{◌-◌}
 use native.Mathlib.Omega.{arith}
 use Rattle.block_value.proofs.Laws.{made-zero, made-large, made-far, made-well}
-use borrow.Author.Rules.{rules}
 use Rattle.block_value.proofs.make.Goals as goal
 
 pub returns-then-size-eq0 : goal.returns-then-size-eq0
@@ -14,10 +12,6 @@ returns-then-exponent-gt11 c = sym (made-large _ _ _ _ c.if-size-eq0.false (omeg
 pub returns-then-num_limit-num : goal.returns-then-num_limit-num
 returns-then-num_limit-num c = sym (made-far _ _ _ _ c.if-size-eq0.false (omega arith) (rw c.num_limit.ensures.0 at c.if-num_limit-num.true))
 
-pub returns-then-exponent-lt4 : goal.returns-then-exponent-lt4
-returns-then-exponent-lt4 c = sym (made-well _ _ _ _ c.if-size-eq0.false 0 (omega arith) (omega arith) (rw c.num_limit.ensures.0 at c.if-num_limit-num.false))
-
 pub returns : goal.returns
 returns c =
-    sym (made-well _ _ _ _ c.if-size-eq0.false (c.largest_power_of_2_not_in_excess-exponent.result - 4) (omega arith) (omega arith)
-    (rw c.num_limit.ensures.0 at c.if-num_limit-num.false))
+    sym (made-well _ _ _ _ c.if-size-eq0.false _ (omega arith) (omega arith) (rw c.num_limit.ensures.0 at c.if-num_limit-num.false))

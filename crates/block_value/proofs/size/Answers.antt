@@ -1,5 +1,4 @@
 use Rattle.block_value.proofs.Laws.{size-shifted}
-use borrow.Author.Rules.{rules}
 use Rattle.block_value.proofs.size.Goals as goal
 
 pub returns : goal.returns

@@ -1,12 +1,13 @@
-use Rattle.std.proofs.Common.{ℕ, ◌+◌, ◌%◌, ◌^◌, refl, ap, ◌∙◌, arith}
+use borrow.Author.Tests.{eqb-true}
+use Rattle.std.proofs.Common.{sym, ℕ, ◌+◌, ◌%◌, ◌^◌, refl, ap, ◌∙◌, arith}
 use Rattle.ending.specs.declared.Ending.{Ending}
 use Rattle.coapdump.proofs.Lining.{unread-none, unread-one}
 use Rattle.coapdump.proofs.print_last.Goals as goal
 
-pub returns-then-text-eq0-clause-unreadable_value : goal.returns-then-text-eq0-clause-unreadable_value
-returns-then-text-eq0-clause-unreadable_value c =
+pub returns-then-is_empty-clause-unreadable_value : goal.returns-then-is_empty-clause-unreadable_value
+returns-then-is_empty-clause-unreadable_value c =
     let is = c.stopped.ensures in (
-      ap (λ (e : Ending). e.unreadable) is ∙ omega (arith, unread-none c.args.text.now c.if-text-eq0.true, c.well_formed),
+      ap (λ (e : Ending). e.unreadable) is ∙ omega (arith, unread-none c.args.text.now (eqb-true _ 0 (sym c.is_empty.ensures ∙ c.if-is_empty.true)), c.well_formed),
       ap (λ (e : Ending). e.read_failed) is,
     )
 

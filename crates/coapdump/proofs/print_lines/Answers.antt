@@ -19,5 +19,5 @@ loop-end-preserved c =
       omega (arith, c.print_line-printed.auto, inv.0),
       omega (arith, c.print_line-printed.auto, inv.1),
       omega (arith, c.print_line-printed.auto, inv.2),
-      going_on inv.3 c.loop-end-test.true _ _ _ c.wrapping_add_u64-number.ensures.value bad c.mark_from-end-in-loop-end.ensures,
+      going_on inv.3 c.loop-end-test.true _ _ _ refl bad c.mark_from-end-in-loop-end.ensures,
     )

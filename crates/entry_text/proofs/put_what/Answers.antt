@@ -7,4 +7,4 @@ pub returns : goal.returns
 unfolding what_text
 returns c =
     let cache = put_then c.put_cached-k.ensures.put (put_then c.put_byte-k-2.ensures c.put_maybe.ensures.put) in
-    record { put = put_as (put_then c.put_pair-k.ensures.put (put_then c.put_byte-k.ensures cache)) (rw c.recorded_block.ensures); upper_bound = search rules }
+    record { put = put_as (put_then c.put_pair-k.ensures.put (put_then c.put_byte-k.ensures cache)) (rw (c.from.ensures, c.from-2.ensures, c.recorded_block.ensures)); upper_bound = search rules }

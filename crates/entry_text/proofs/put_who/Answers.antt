@@ -8,4 +8,4 @@ pub returns : goal.returns
 unfolding who_text key_of
 returns c =
     let rest = put_then c.put_key-k.ensures.put (put_then c.put_byte-k-2.ensures c.put_decimal.ensures.put) in
-    record { put = put_as (put_then c.put_decimal-k.ensures.put (put_then c.put_byte-k.ensures rest)) (rw c.usize_of_u8.ensures.0); upper_bound = search rules }
+    record { put = put_as (put_then c.put_decimal-k.ensures.put (put_then c.put_byte-k.ensures rest)) (rw c.from.ensures); upper_bound = search rules }

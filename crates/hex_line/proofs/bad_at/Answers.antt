@@ -5,11 +5,11 @@ use Rattle.hex_line.proofs.bad_at.Goals as goal
 pub loop-i-init : goal.loop-i-init
 loop-i-init c = passed_start _ _
 
-pub returns-then-nibble_of-eq16 : goal.returns-then-nibble_of-eq16
-returns-then-nibble_of-eq16 c = passed-stop c.loop-i.invariant c.loop-i-test.true (no-hex _ c.nibble_of.ensures.0 c.if-nibble_of-eq16.true)
+pub returns-then-is_none : goal.returns-then-is_none
+returns-then-is_none c = passed-stop c.loop-i.invariant c.loop-i-test.true (no-hex _ c.nibble_of.ensures.value _ c.is_none.ensures c.if-is_none.true)
 
 pub loop-i-preserved : goal.loop-i-preserved
-loop-i-preserved c = passed-turn c.loop-i.invariant c.loop-i-test.true (some-hex _ c.nibble_of.ensures.0 c.if-nibble_of-eq16.false)
+loop-i-preserved c = passed-turn c.loop-i.invariant c.loop-i-test.true (some-hex _ c.nibble_of.ensures.value _ c.is_none.ensures c.if-is_none.false)
 
 pub returns : goal.returns
 returns c = passed-end c.loop-i.invariant c.loop-i-test.false

@@ -15,7 +15,7 @@ pub loop-i-preserved : goal.loop-i-preserved
 loop-i-preserved c =
     let text = c.args.text.now in
     let inv = c.loop-i.invariant in
-    rw zero-add at (up_turn _ 0 (map lower text) (length text) _ _ _ (length-map text lower) (omega arith) inv c.loop-i-test.true (c.lower_of.ensures ∙ lower-at text _))
+    rw zero-add at (up_turn _ 0 (map lower text) (length text) _ _ _ (length-map text lower) (omega arith) inv c.loop-i-test.true (c.to_ascii_lowercase.ensures.value ∙ lower-at text _))
 
 pub returns : goal.returns
 returns c =

@@ -13,5 +13,8 @@ returns-in_default c =
 
 pub returns : goal.returns
 returns c =
-    let told = sym c.decode_pairs.ensures.value ∙ c.in-Bytes.is in
-    record { value = some_bytes _ _ (omega (arith, c.bad_at-bad.ensures, c.if-bad-text.false)) _ told; filled = some-filled c.args.text.now _ _ c.requires.start_le_longest.1 (c.decode_pairs.ensures.filled _ c.in-Bytes.is) }
+    let told = sym c.decode_pairs.ensures.value ∙ c.in-Some.is in
+    record {
+      value = some_bytes _ _ (omega (arith, c.bad_at-bad.ensures, c.if-bad-text.false)) _ told;
+      filled = some-filled c.args.text.now _ _ c.requires.start_le_longest.1 (c.decode_pairs.ensures.filled _ c.in-Some.is);
+    }

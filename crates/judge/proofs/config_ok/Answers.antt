@@ -10,7 +10,4 @@ returns c =
       c.between-2.ensures,
       c.between-3.ensures,
       c.between-4.ensures,
-      c.u64_of_usize.ensures,
-      c.u64_of_usize-2.ensures,
-      c.u64_of_usize-3.ensures,
     ) refl

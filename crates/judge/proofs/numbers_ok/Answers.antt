@@ -4,9 +4,3 @@ use Rattle.judge.proofs.numbers_ok.Goals as goal
 
 pub memories_ok-requires : goal.memories_ok-requires
 memories_ok-requires c = let f = config-fits _ (sym c.config_ok.ensures ∙ c.if-config_ok.true) in (f.upload, f.response)
-
-pub returns-then-config_ok : goal.returns-then-config_ok
-returns-then-config_ok c = rw (sym c.config_ok.ensures ∙ c.if-config_ok.true) c.memories_ok.ensures
-
-pub returns : goal.returns
-returns c = rw (sym c.config_ok.ensures ∙ c.if-config_ok.false)

@@ -1,9 +1,14 @@
-use mathlib.Core.Path.{sym, ◌∙◌}
-use Rattle.key_place.proofs.Unswept.{place_kept, place-new}
+use Rattle.std.proofs.Common.{refl, ◌∙◌, sym, ap}
+use Rattle.key_place.specs.Place.{row_index}
+use Rattle.key_place.proofs.Unswept.{row_index-here, row_index-some, row_index-none, place_kept, place-new}
 use Rattle.key_place.proofs.place_of.Goals as goal
 
-pub returns-then-i-lt16 : goal.returns-then-i-lt16
-returns-then-i-lt16 c = sym (place_kept _ _ _ _ _ c.find_key-i.ensures c.if-i-lt16.true)
+pub returns-in-Some : goal.returns-in-Some
+returns-in-Some c =
+    let found = row_index-some _ (sym c.find_key.ensures ∙ c.in-Some.is) in
+    row_index-here (sym (place_kept _ _ _ _ _ found.0 found.1)) found.1
 
 pub returns : goal.returns
-returns c = c.find_free.ensures ∙ sym (place-new _ _ _ _ _ c.find_key-i.ensures c.if-i-lt16.false)
+returns c =
+    let none = row_index-none _ (sym c.find_key.ensures ∙ c.in_default.is) in
+    c.find_free.ensures ∙ ap row_index (sym (place-new _ _ _ _ _ refl none))

@@ -1,16 +1,11 @@
-use mathlib.Core.Path.{◌≡◌, ◌∙◌, sym}
-use Prim.Native.Nat.{◌<◌}
-use native.Mathlib.Omega.{arith}
-use lib.ListN.{length}
-use lib.Seq.{take_all}
-use borrow.Author.Rules.{rules}
+use Rattle.std.proofs.Common.{◌≡◌, length, min, arith, rules}
+use Rattle.std.proofs.lemmas.List.{take_min}
+use Rattle.keys.specs.Keys.{key_of}
 use Rattle.keys.proofs.cut.Goals as goal
 
-pub returns-then-n-le64 : goal.returns-then-n-le64
-returns-then-n-le64 c = (rw c.usize_of_u8-n.ensures.0, c.if-n-le64.true, search rules)
-
-pub returns-else-n-le64 : goal.returns-else-n-le64
-returns-else-n-le64 c =
-    let past : 64 < c.args.len = rw c.usize_of_u8-n.ensures.0 at c.if-n-le64.false in
-    let long : length c.args.bytes ≡ 64 = search rules in
-    (take_all 64 c.args.bytes (omega arith) ∙ sym (take_all c.args.len c.args.bytes (omega arith)), omega arith, long)
+pub returns : goal.returns
+unfolding key_of
+returns c =
+    let sized : length c.args.key.bytes ≡ 64 = search rules in
+    let is : c.min.result ≡ min c.args.key.len (length c.args.key.bytes) = cc in
+    (rw is (take_min c.args.key.len c.args.key.bytes), omega arith, sized)

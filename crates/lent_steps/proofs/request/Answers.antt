@@ -1,8 +1,6 @@
 use mathlib.Core.Path.{sym, ◌∙◌}
-use borrow.Author.Tests.{not-true, not-false}
 use Rattle.request_step.proofs.Steps.{step-read}
 use Rattle.lent_steps.proofs.Forms.{room_of_lem, leaves_all, leaves-step}
-use borrow.Author.Rules.{rules}
 use Rattle.lent_steps.proofs.request.Goals as goal
 
 pub returns-then-not-request_room : goal.returns-then-not-request_room

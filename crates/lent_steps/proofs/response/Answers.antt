@@ -1,7 +1,5 @@
 use mathlib.Core.Path.{sym, ◌∙◌}
-use borrow.Author.Tests.{not-true, not-false}
 use Rattle.lent_steps.proofs.Forms.{reply-room, leaves_all, leaves-step}
-use borrow.Author.Rules.{rules}
 use Rattle.lent_steps.proofs.response.Goals as goal
 
 pub returns-then-not-response_room : goal.returns-then-not-response_room

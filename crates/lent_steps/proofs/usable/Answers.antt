@@ -1,5 +1,4 @@
 use Rattle.lent_steps.specs.Lent.{usable}
-use borrow.Author.Rules.{rules}
 use Rattle.lent_steps.proofs.usable.Goals as goal
 
 pub returns : goal.returns

@@ -1,5 +1,4 @@
 use Rattle.line_runner.proofs.Leaving.{from_start, leaves-called}
-use borrow.Author.Rules.{rules}
 use Rattle.line_runner.proofs.run.Goals as goal
 
 pub returns : goal.returns

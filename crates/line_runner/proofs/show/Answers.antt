@@ -1,6 +1,5 @@
 use native.Mathlib.Omega.{arith}
 use Rattle.line_runner.proofs.Leaving.{from_start, leaves-shown}
-use borrow.Author.Rules.{rules}
 use Rattle.line_runner.proofs.show.Goals as goal
 
 pub returns : goal.returns

@@ -12,6 +12,6 @@ returns-in_default-clause-put c =
 
 pub returns-clause-put : goal.returns-clause-put
 returns-clause-put c =
-    let x = read-tells c.args.message.now c.in-Message.packet (sym c.in-Message.ensures) in
+    let x = read-tells c.args.message.now c.in-Ok.packet (sym c.in-Ok.ensures) in
     let p = put_then c.put_head-k.ensures.put (c.put_parts.ensures.put x.0 x.1.means-it) in
-    put_as p (message-line c.args.number c.args.message.now c.in-Message.packet x.0 x.1)
+    put_as p (message-line c.args.number c.args.message.now c.in-Ok.packet x.0 x.1)

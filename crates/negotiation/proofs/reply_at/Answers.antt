@@ -1,7 +1,6 @@
 use mathlib.Core.Path.{sym, ap, ◌∙◌}
 use Rattle.negotiation.specs.Negotiation.{reply_of}
 use Rattle.negotiation.proofs.Laws.{reply-none, reply-made}
-use borrow.Author.Rules.{rules}
 use Rattle.negotiation.proofs.reply_at.Goals as goal
 
 pub returns-then-size-eq0 : goal.returns-then-size-eq0

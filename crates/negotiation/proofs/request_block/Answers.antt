@@ -1,13 +1,12 @@
-use mathlib.Core.Path.{sym}
-use Rattle.negotiation.proofs.Laws.{asks_none, asks-as-read}
-use borrow.Author.Rules.{rules}
+use mathlib.Core.Path.{sym, ◌∙◌}
+use Rattle.negotiation.proofs.Laws.{asks}
 use Rattle.negotiation.proofs.request_block.Goals as goal
 
 pub returns-in_default : goal.returns-in_default
-returns-in_default c = sym (asks-as-read c.args.config c.args.given c.args.option.now _ _ c.if-given.true c.read.ensures c.in_default.is)
+returns-in_default c = rw (asks c.args.config c.args.given c.args.option.now, c.if-given.true) (sym c.in_default.is ∙ c.read.ensures)
 
 pub returns-then-given : goal.returns-then-given
-returns-then-given c = sym (asks-as-read c.args.config c.args.given c.args.option.now _ _ c.if-given.true c.read.ensures c.in-Value.is)
+returns-then-given c = rw (asks c.args.config c.args.given c.args.option.now, c.if-given.true) (sym c.in-Some.is ∙ c.read.ensures)
 
 pub returns : goal.returns
-returns c = sym (asks_none c.args.config c.args.given c.args.option.now c.if-given.false)
+returns c = rw (asks c.args.config c.args.given c.args.option.now, c.if-given.false)

@@ -1,13 +1,7 @@
-use mathlib.Core.Path.{◌≡◌}
-use Prim.Native.Nat.{ℕ, ◌-◌, ◌≤◌, ◌<◌}
-use lib.ListN.{get_or}
-use Rattle.option_table.specs.Options.{table, numbers, leasts, mosts}
+use Rattle.std.proofs.Common.{◌≡◌, drop}
+use Rattle.option_table.specs.Options.{table, look_up, allowed_of}
 use Rattle.option_table.proofs.length_allowed.Given as goal
 
--- `option_table::length_allowed` meets its contract. The loop's invariant: each number that it passed is below the one that is looked for, and the columns are the table's. Where
--- it stops at a larger one, all that are left are larger too, since the numbers rise. Assumes nothing.
-abbrev pub invariant-loop-i : goal.invariant-loop-i
-invariant-loop-i l = (l.i ≤ 19) × ((k : ℕ) → k < l.i → get_or (numbers table) k 0 < l.number) × (l.numbers ≡ numbers table) × (l.least ≡ leasts table) × (l.most ≡ mosts table)
-
-abbrev pub decreases-loop-i : goal.decreases-loop-i
-decreases-loop-i l = 19 - l.i
+-- What the table says of the length is what the rows ahead say.
+abbrev pub invariant-loop-registered : goal.invariant-loop-registered
+invariant-loop-registered l = look_up (drop l.registered-index table) l.number l.len ≡ allowed_of l.number l.len

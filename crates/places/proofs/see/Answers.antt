@@ -14,7 +14,7 @@ returns-then-is_live c =
 pub returns-then-e : goal.returns-then-e
 returns-then-e c =
     let found = c.entry_checked-checked.ensures in (
-      seen-expired _ _ _ c.args.seen _ _ _ _ found.0 found.1 _ (live-as _ _ _ _ (sym c.if-is_live.false ∙ c.is_live.ensures)) c.first_free.ensures c.if-e.true,
+      seen-expired _ _ _ c.args.seen _ _ _ _ found.0 found.1 _ (live-as _ _ _ _ (sym c.if-is_live.false ∙ c.is_live.ensures)) c.or-free.ensures c.if-e.true,
       found.3,
       few found.1 found.2,
     )
@@ -22,7 +22,7 @@ returns-then-e c =
 pub returns : goal.returns
 returns c =
     let found = c.entry_checked-checked.ensures in (
-      seen-free _ _ _ c.args.seen _ _ _ _ found.0 found.1 _ (live-as _ _ _ _ (sym c.if-is_live.false ∙ c.is_live.ensures)) c.first_free-2.ensures c.if-e.false,
+      seen-free _ _ _ c.args.seen _ _ _ _ found.0 found.1 _ (live-as _ _ _ _ (sym c.if-is_live.false ∙ c.is_live.ensures)) c.or-free.ensures c.if-e.false,
       found.3,
       few found.1 found.2,
     )

@@ -1,5 +1,4 @@
 use Rattle.request_block1.specs.Block1.{bad_form}
-use borrow.Author.Rules.{rules}
 use Rattle.request_block1.proofs.bad_form.Goals as goal
 
 pub returns : goal.returns

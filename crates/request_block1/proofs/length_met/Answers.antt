@@ -1,6 +1,5 @@
-use mathlib.Core.Path.{sym, ◌∙◌}
+use mathlib.Core.Path.{sym}
 use native.Mathlib.Omega.{arith}
-use borrow.Author.Rules.{rules}
 use Rattle.request_block1.proofs.Taking.{met-afresh, met_all}
 use Rattle.request_block1.proofs.length_met.Goals as goal
 
@@ -8,4 +7,4 @@ pub returns-then-strict-block : goal.returns-then-strict-block
 returns-then-strict-block c = (sym (met-afresh _ _ _ c.if-strict-block.true), omega arith)
 
 pub returns : goal.returns
-returns c = (c.usize_of_u32.ensures.0 ∙ sym (met_all _ _ _ c.if-strict-block.false), omega arith)
+returns c = (sym (met_all _ _ _ c.if-strict-block.false), omega arith)

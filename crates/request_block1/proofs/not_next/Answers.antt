@@ -1,8 +1,7 @@
 use mathlib.Core.Path.{refl}
 use Rattle.request_block1.specs.Block1.{not_next}
-use borrow.Author.Rules.{rules}
 use Rattle.request_block1.proofs.not_next.Goals as goal
 
 pub returns : goal.returns
 unfolding not_next
-returns c = rw (c.usize_of_u32.ensures.0, c.start.ensures.0) refl
+returns c = rw c.start.ensures.0 refl

@@ -10,7 +10,6 @@ use Rattle.judge.specs.Verdict.{lengths}
 use Rattle.judge.proofs.Judged.{AtPlace, at_place}
 use Rattle.call.specs.Contract.{PlacedAt}
 use Rattle.call.proofs.Meanings.{opened-at, changed-at, lent-piece, lent_length, lent_back, asked-left}
-use borrow.Author.Rules.{rules}
 use Rattle.request_call.proofs.request_at.Goals as goal
 
 pub overflow_mul-home : goal.overflow_mul-home
@@ -41,7 +40,10 @@ pub step_request-step-requires : goal.step_request-step-requires
 step_request-step-requires c =
     let placed : AtPlace c.args.config c.requires.2 c.args.asked.time c.requires.0 (lengths (length c.args.upload.now) c.requires.1 c.args.asked.bare (length c.args.payload.now) 0) c.args.i =
     at_place _ _ _ _ _ _ c.requires.3.1.1 in
-    let entry-is : (k : Name) (v : ℕ) (t : Table) → PlacedAt c.args.config c.args.sight c.args.key c.args.asked.time (lengths (length c.args.upload.now) v c.args.asked.bare (length c.args.payload.now) 0) c.args.i k t → c.opened_entry-e.result ≡ opened k (sweep c.args.config.lifetime c.args.asked.time t.entries) =
+    let entry-is : (k : Name) (v : ℕ) (t : Table)
+    → PlacedAt c.args.config c.args.sight c.args.key c.args.asked.time
+    (lengths (length c.args.upload.now) v c.args.asked.bare (length c.args.payload.now) 0) c.args.i k t
+    → c.opened_entry-e.result ≡ opened k (sweep c.args.config.lifetime c.args.asked.time t.entries) =
     λ k v t has. c.opened_entry-e.ensures ∙ opened-at _ _ _ _ _ _ t has.1 _ has.0 in
     let holds : c.opened_entry-e.result.state.assembled.len ≤ c.args.config.upload =
     rw (entry-is c.requires.0 c.requires.1 c.requires.2 c.requires.3) (placed.holds c.requires.3.1.0.1) in
@@ -49,12 +51,12 @@ step_request-step-requires c =
     let long = lent_length c.args.upload.now c.args.config.upload c.args.i p.up in
     record { size = long; small = omega arith; holds = rw long holds; home = omega arith; away = omega arith }
 
-pub leave-requires : goal.leave-requires
-leave-requires c = c.requires.3.1.0.3
-
 pub returns : goal.returns
 returns c =
-    let entry-is : (k : Name) (v : ℕ) (t : Table) → PlacedAt c.args.config c.args.sight c.args.key c.args.asked.time (lengths (length c.args.upload.now) v c.args.asked.bare (length c.args.payload.now) 0) c.args.i k t → c.opened_entry-e.result ≡ opened k (sweep c.args.config.lifetime c.args.asked.time t.entries) =
+    let entry-is : (k : Name) (v : ℕ) (t : Table)
+    → PlacedAt c.args.config c.args.sight c.args.key c.args.asked.time
+    (lengths (length c.args.upload.now) v c.args.asked.bare (length c.args.payload.now) 0) c.args.i k t
+    → c.opened_entry-e.result ≡ opened k (sweep c.args.config.lifetime c.args.asked.time t.entries) =
     λ k v t has. c.opened_entry-e.ensures ∙ opened-at _ _ _ _ _ _ t has.1 _ has.0 in
     let m = c.args.upload.now in
     let n = c.args.config.upload in

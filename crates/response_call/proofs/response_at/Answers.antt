@@ -6,36 +6,36 @@ use Rattle.places.specs.Places.{opened}
 use Rattle.judge.specs.Verdict.{lengths}
 use Rattle.judge.proofs.Judged.{AtPlace, at_place}
 use Rattle.call.proofs.Meanings.{opened-at, changed-at, lent-piece, lent_length, lent_back, response-left}
-use borrow.Author.Rules.{rules}
 use Rattle.response_call.proofs.response_at.Goals as goal
 
 pub overflow_mul-from : goal.overflow_mul-from
 overflow_mul-from c =
-    let placed : AtPlace c.args.config c.requires.2 c.args.numbers.time c.requires.0 (lengths c.requires.1 (length c.args.response.now) c.args.numbers.bare (length c.args.payload.now) (length c.args.head.now)) c.args.i =
+    let placed : AtPlace c.args.config c.requires.2 c.args.numbers.time c.requires.0
+    (lengths c.requires.1 (length c.args.response.now) c.args.numbers.bare (length c.args.payload.now) (length c.args.head.now)) c.args.i =
     at_place _ _ _ _ _ _ c.requires.3.1.1 in
     omega (arith, placed)
 
 pub overflow_add-end : goal.overflow_add-end
 overflow_add-end c =
-    let placed : AtPlace c.args.config c.requires.2 c.args.numbers.time c.requires.0 (lengths c.requires.1 (length c.args.response.now) c.args.numbers.bare (length c.args.payload.now) (length c.args.head.now)) c.args.i =
+    let placed : AtPlace c.args.config c.requires.2 c.args.numbers.time c.requires.0
+    (lengths c.requires.1 (length c.args.response.now) c.args.numbers.bare (length c.args.payload.now) (length c.args.head.now)) c.args.i =
     at_place _ _ _ _ _ _ c.requires.3.1.1 in
     omega (arith, placed)
 
 pub slice_bounds-step_response-end : goal.slice_bounds-step_response-end
 slice_bounds-step_response-end c =
-    let placed : AtPlace c.args.config c.requires.2 c.args.numbers.time c.requires.0 (lengths c.requires.1 (length c.args.response.now) c.args.numbers.bare (length c.args.payload.now) (length c.args.head.now)) c.args.i =
+    let placed : AtPlace c.args.config c.requires.2 c.args.numbers.time c.requires.0
+    (lengths c.requires.1 (length c.args.response.now) c.args.numbers.bare (length c.args.payload.now) (length c.args.head.now)) c.args.i =
     at_place _ _ _ _ _ _ c.requires.3.1.1 in
     omega (arith, placed)
 
 pub step_response-step-requires : goal.step_response-step-requires
 step_response-step-requires c =
-    let placed : AtPlace c.args.config c.requires.2 c.args.numbers.time c.requires.0 (lengths c.requires.1 (length c.args.response.now) c.args.numbers.bare (length c.args.payload.now) (length c.args.head.now)) c.args.i =
+    let placed : AtPlace c.args.config c.requires.2 c.args.numbers.time c.requires.0
+    (lengths c.requires.1 (length c.args.response.now) c.args.numbers.bare (length c.args.payload.now) (length c.args.head.now)) c.args.i =
     at_place _ _ _ _ _ _ c.requires.3.1.1 in
     let p = placed in
     (lent_length c.args.response.now c.args.config.response c.args.i p.down, omega arith, p.headed)
-
-pub leave-requires : goal.leave-requires
-leave-requires c = c.requires.3.1.0.3
 
 pub returns : goal.returns
 returns c =

@@ -6,7 +6,6 @@ use native.Mathlib.Omega.{arith}
 use lib.ListN.{length}
 use Rattle.pieces.specs.Memory.{patch}
 use Rattle.pieces.proofs.Memory.{patch-after}
-use borrow.Author.Rules.{rules}
 use Rattle.response_step.proofs.cache_in.Goals as goal
 
 pub returns : goal.returns

@@ -1,10 +1,5 @@
 use Rattle.script_cut.proofs.Splitting.{Met}
-use lib.ListN.{length}
-use Prim.Native.Nat.{◌-◌}
 use Rattle.script_cut.proofs.mark_from.Given as goal
 
 abbrev pub invariant-loop-i : goal.invariant-loop-i
 invariant-loop-i l = Met l.mark l.line l.from l.i
-
-abbrev pub decreases-loop-i : goal.decreases-loop-i
-decreases-loop-i l = length l.line - l.i

@@ -1,24 +1,25 @@
+use mathlib.Core.Path.{refl, sym}
+use Prim.Native.Nat.{◌/◌}
+use lib.ListN.{length}
 use native.Mathlib.Omega.{arith}
-use Rattle.script_fields.proofs.Pairs.{paired-start, odd, bad-high, bad-low, paired-turn, paired-done, not-filled}
-use mathlib.Core.Path.{sym, ◌∙◌}
+use Rattle.script_fields.proofs.Pairs.{odd, bad-high, bad-low, paired-turn, paired-done}
 use Rattle.script_fields.proofs.decode_pairs.Goals as goal
 
-pub loop-i-init : goal.loop-i-init
-loop-i-init c = paired-start _ _
+pub returns-then-text-eq1-clause-value : goal.returns-then-text-eq1-clause-value
+returns-then-text-eq1-clause-value c = sym (odd _ c.if-text-eq1.true)
 
-pub returns-then-text-i-eq1 : goal.returns-then-text-i-eq1
-returns-then-text-i-eq1 c = record { value = sym (odd _ _ _ _ _ c.loop-i.invariant c.loop-i-test.true c.if-text-i-eq1.true); filled = not-filled _ _ }
+pub returns-in_err-high-clause-value : goal.returns-in_err-high-clause-value
+returns-in_err-high-clause-value c = rw c.from_residual.ensures (sym (bad-high _ _ _ _ c.loop-k.invariant (omega arith) (sym c.in_err-high.ensures.value)))
 
-pub returns-then-high-eq16 : goal.returns-then-high-eq16
-returns-then-high-eq16 c = record { value = sym (bad-high _ _ _ _ _ c.loop-i.invariant (omega arith) (sym c.nibble_of-high.ensures.0 ∙ c.if-high-eq16.true)); filled = not-filled _ _ }
+pub returns-in_err-low-clause-value : goal.returns-in_err-low-clause-value
+returns-in_err-low-clause-value c = rw c.from_residual-in_err-low.ensures (sym (bad-low _ _ _ _ c.loop-k.invariant (omega arith) (sym c.in_err-low.ensures.value)))
 
-pub returns-then-low-eq16 : goal.returns-then-low-eq16
-returns-then-low-eq16 c = record { value = sym (bad-low _ _ _ _ _ c.loop-i.invariant (omega arith) (sym c.nibble_of-low.ensures.0 ∙ c.if-low-eq16.true)); filled = not-filled _ _ }
-
-pub loop-i-preserved : goal.loop-i-preserved
-loop-i-preserved c =
-    paired-turn _ _ _ _ _ c.loop-i.invariant (omega arith) c.requires _ _ c.nibble_of-high.ensures.0 c.nibble_of-low.ensures.0
-    c.if-high-eq16.false c.if-low-eq16.false
+pub loop-k-preserved : goal.loop-k-preserved
+loop-k-preserved c =
+    paired-turn _ _ _ _ c.loop-k.invariant (omega arith) _ _ _ (sym c.in_ok-high.ensures.value) (sym c.in_ok-low.ensures.value) refl
+    (omega (arith, c.loop-k.invariant.same))
 
 pub returns : goal.returns
-returns c = let d = paired-done _ _ _ _ _ c.loop-i.invariant c.loop-i-test.false c.requires in record { value = sym d.0; filled = d.1 }
+returns c =
+    let d = paired-done _ _ _ _ (length c.args.text.now / 2) c.loop-k.invariant (omega arith) (omega arith) c.requires in
+    record { value = sym d.0; filled = d.1 }

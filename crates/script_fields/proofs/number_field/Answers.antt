@@ -1,28 +1,32 @@
-use Rattle.script_fields.proofs.Numbers.{digit-range}
-use native.Mathlib.Omega.{arith}
 use Rattle.script_fields.proofs.Numbers.{upto-start, no_digit_lem, bad-digit, too_large_lem, upto_turn, upto_done}
+use native.Mathlib.Omega.{arith}
 use mathlib.Core.Path.{sym, ◌∙◌}
+use Rattle.script_fields.specs.Fields.{is_digit}
 use Rattle.script_fields.proofs.number_field.Goals as goal
 
-pub returns-then-text-eq0 : goal.returns-then-text-eq0
-returns-then-text-eq0 c = sym (no_digit_lem _ c.if-text-eq0.true)
+pub returns-then-is_empty : goal.returns-then-is_empty
+returns-then-is_empty c = sym (no_digit_lem _ (grind arith))
 
-pub loop-i-init : goal.loop-i-init
-loop-i-init c = upto-start _
+pub loop-x-init : goal.loop-x-init
+loop-x-init c = upto-start _
 
-pub returns-then-not-is_digit : goal.returns-then-not-is_digit
-returns-then-not-is_digit c = sym (bad-digit _ _ _ c.loop-i.invariant c.loop-i-test.true (sym c.is_digit.ensures ∙ c.if-not-is_digit.true))
+pub returns-then-not-is_ascii_digit : goal.returns-then-not-is_ascii_digit
+unfolding is_digit
+returns-then-not-is_ascii_digit c = sym (bad-digit _ _ _ c.loop-x.invariant (omega arith) (sym c.is_ascii_digit.ensures.value ∙ c.if-not-is_ascii_digit.true))
 
-pub overflow_sub-d : goal.overflow_sub-d
-overflow_sub-d c = omega (arith, digit-range _ (sym c.is_digit.ensures ∙ c.if-not-is_digit.false))
+pub returns-in_err-checked_mul : goal.returns-in_err-checked_mul
+returns-in_err-checked_mul c = rw c.from_residual.ensures (sym (too_large_lem _ _ _ c.loop-x.invariant (omega arith) (omega (arith, c.in_err-checked_mul.ensures))))
 
-pub returns-then-d-sum : goal.returns-then-d-sum
-returns-then-d-sum c = sym (too_large_lem _ _ _ c.loop-i.invariant c.loop-i-test.true (omega arith))
+pub returns-in_err-sum : goal.returns-in_err-sum
+returns-in_err-sum c =
+    rw c.from_residual-in_err-sum.ensures
+    (sym (too_large_lem _ _ _ c.loop-x.invariant (omega arith) (omega (arith, c.in_ok-checked_mul.ensures, c.in_err-sum.ensures, c.from-d.ensures))))
 
-pub loop-i-preserved : goal.loop-i-preserved
-loop-i-preserved c =
-    upto_turn _ _ _ _ c.loop-i.invariant c.loop-i-test.true (sym c.is_digit.ensures ∙ c.if-not-is_digit.false)
-    (omega arith) (omega arith)
+pub loop-x-preserved : goal.loop-x-preserved
+unfolding is_digit
+loop-x-preserved c =
+    upto_turn _ _ _ _ c.loop-x.invariant (omega arith) (sym c.is_ascii_digit.ensures.value ∙ c.if-not-is_ascii_digit.false)
+    (omega (arith, c.in_ok-checked_mul.ensures, c.in_ok-sum.ensures, c.from-d.ensures)) (omega (arith, c.in_ok-sum.ensures))
 
 pub returns : goal.returns
-returns c = sym (upto_done _ _ _ c.loop-i.invariant c.loop-i-test.false c.if-text-eq0.false)
+returns c = sym (upto_done _ _ _ c.loop-x.invariant (omega arith) (grind arith))

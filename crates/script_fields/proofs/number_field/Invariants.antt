@@ -1,10 +1,5 @@
 use Rattle.script_fields.proofs.Numbers.{Upto}
-use lib.ListN.{length}
-use Prim.Native.Nat.{◌-◌}
 use Rattle.script_fields.proofs.number_field.Given as goal
 
-abbrev pub invariant-loop-i : goal.invariant-loop-i
-invariant-loop-i l = Upto l.text l.sum l.i
-
-abbrev pub decreases-loop-i : goal.decreases-loop-i
-decreases-loop-i l = length l.text - l.i
+abbrev pub invariant-loop-x : goal.invariant-loop-x
+invariant-loop-x l = Upto l.text l.sum l.x-index

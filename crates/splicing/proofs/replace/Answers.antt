@@ -4,7 +4,6 @@ use Prim.Native.Nat.{ℕ}
 use native.Mathlib.Omega.{arith}
 use Rattle.pieces.specs.Memory.{patch}
 use Rattle.splicing.proofs.Splicing.{splice-put}
-use borrow.Author.Rules.{rules}
 use Rattle.splicing.proofs.replace.Goals as goal
 
 pub returns : goal.returns

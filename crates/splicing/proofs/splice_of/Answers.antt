@@ -1,8 +1,7 @@
+use Rattle.std.specs.Prelude.{Ok}
 use mathlib.Core.Path.{sym, ap, ◌∙◌}
 use native.Mathlib.Omega.{arith}
-use Rattle.splicing.specs.declared.Splice.TheVariants.{Body}
 use Rattle.splicing.proofs.Splicing.{too_far, too_small, taken}
-use borrow.Author.Rules.{rules}
 use Rattle.splicing.proofs.splice_of.Goals as goal
 
 pub returns-then-reach-size : goal.returns-then-reach-size
@@ -18,4 +17,4 @@ pub returns-then-room-kept-2 : goal.returns-then-room-kept-2
 returns-then-room-kept-2 c = sym (too_small _ _ _ _ _ (omega arith) (omega arith))
 
 pub returns : goal.returns
-returns c = ap Body (omega arith) ∙ sym (taken _ _ _ _ _ (omega arith) (omega arith))
+returns c = ap Ok (omega arith) ∙ sym (taken _ _ _ _ _ (omega arith) (omega arith))

@@ -2,7 +2,6 @@ use mathlib.Core.Path.{◌≡◌, refl}
 use mathlib.Core.Bool.{Bool, true, false, cond, not, ◌||◌}
 use lib.Dec.{eqb}
 use Rattle.block_state.specs.State.{assembled_ok}
-use borrow.Author.Rules.{rules}
 use Rattle.state_limits.proofs.assembled_ok.Goals as goal
 
 unless : (b x : Bool) → (not b || x) ≡ cond b x true
@@ -11,4 +10,4 @@ unless false x = refl
 
 pub returns : goal.returns
 unfolding assembled_ok
-returns c = rw (c.usize_of_u32.ensures.0, unless (eqb c.args.assembled.len 0))
+returns c = rw (unless (eqb c.args.assembled.len 0))

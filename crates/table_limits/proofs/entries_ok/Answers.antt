@@ -1,18 +1,12 @@
-use mathlib.Core.Path.{refl}
-use native.Mathlib.Omega.{arith}
-use Rattle.keys.proofs.Turns.{all-turn, all_done}
+use Rattle.std.proofs.Common.{◌≡◌, true, false, rules, tests}
+use Rattle.std.proofs.lemmas.Iterator.{cases_from_all, YieldsList-from_slice}
 use Rattle.entries.specs.Entries.{entry_ok}
-use Rattle.entries.proofs.Turns.{nil}
-use borrow.Author.Rules.{rules}
+use Rattle.table_limits.proofs.Every.{decides_all}
 use Rattle.table_limits.proofs.entries_ok.Goals as goal
 
-pub loop-i-init : goal.loop-i-init
-loop-i-init c = (search rules, omega arith, refl)
-
-pub loop-i-preserved : goal.loop-i-preserved
-loop-i-preserved c =
-    let turn = all-turn (entry_ok c.args.config c.args.clock) c.args.entries c.loop-i.i nil c.loop-i.ok _ (omega arith) c.loop-i.invariant.2 in
-    (search rules, search rules, rw c.entry_checked-found.ensures.0 turn)
-
 pub returns : goal.returns
-returns c = all_done (entry_ok c.args.config c.args.clock) c.args.entries c.loop-i.i c.loop-i.ok _ (omega arith) c.loop-i.invariant.2
+returns c =
+    let ok = entry_ok c.args.config c.args.clock in
+    decides_all ok c.args.entries _
+    (cases_from_all _ _ _ (λ e. ok e ≡ true) (λ e. ok e ≡ false) c.all.ensures.ran (YieldsList-from_slice c.args.entries cc)
+    (λ x q k. search (rules, tests)) (λ x q k. search (rules, tests)))

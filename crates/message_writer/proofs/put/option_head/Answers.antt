@@ -1,21 +1,6 @@
-use native.Mathlib.Omega.{arith}
 use Rattle.pieces.proofs.Puts.{put_then, put_as}
-use Rattle.message_measure.proofs.Heads.{head-length, head-is}
-use borrow.Author.Rules.{rules}
+use Rattle.message_measure.proofs.Heads.{head-is}
 use Rattle.message_writer.proofs.put.option_head.Goals as goal
-
-pub put_byte-next-requires : goal.put_byte-next-requires
-put_byte-next-requires c = omega (arith, head-length c.args.delta c.args.len)
-
-pub extension-next-requires : goal.extension-next-requires
-extension-next-requires c =
-    let h = head-length c.args.delta c.args.len in
-    search rules
-
-pub extension-requires : goal.extension-requires
-extension-requires c =
-    let h = head-length c.args.delta c.args.len in
-    search rules
 
 pub returns : goal.returns
 returns c =

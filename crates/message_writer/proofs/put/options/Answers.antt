@@ -1,95 +1,44 @@
-use Rattle.message_writer.proofs.Ahead.{Turn, ahead-start, ahead-done, more, turn-fits, value-length, turn-room, turned}
-use native.Mathlib.Omega.{arith}
-use borrow.Author.Rules.{rules}
+use Rattle.std.proofs.Common.{arith, length-append}
+use Rattle.std.proofs.lemmas.Slice.Zip.{zip_end}
+use Rattle.message_writer.proofs.Ahead.{turn, all-done, ahead-start, ahead-done, turn-fits, value-length, turn-room, turned}
 use Rattle.message_writer.proofs.put.options.Goals as goal
 
-pub loop-i-init : goal.loop-i-init
-loop-i-init c = ahead-start _ _ _ _ _ c.requires.values_value c.requires.values_value_2 c.requires.values_in_bounds
-
-pub bounds-lengths-i : goal.bounds-lengths-i
-bounds-lengths-i c =
-    let m = more c.loop-i.invariant c.loop-i-test.true in
-    search rules
-
-pub overflow_add-end : goal.overflow_add-end
-overflow_add-end c =
-    let turn : Turn c.args.out.now c.args.start c.args.numbers.now c.args.lengths.now c.args.values.now c.loop-i.out c.loop-i.to c.loop-i.before c.loop-i.at c.loop-i.i c.usize_of_u32-number.result c.usize_of_u32.result =
-    record {
-      ahead = c.loop-i.invariant;
-      there = c.loop-i-test.true;
-      numbered = c.usize_of_u32-number.ensures.0;
-      sized = c.usize_of_u32.ensures.0;
-    } in
-    let f = turn-fits turn in omega arith
+pub loop-number-init : goal.loop-number-init
+loop-number-init c = ahead-start _ _ _ _ _ c.requires.values_value c.requires.values_value_2 c.requires.values_in_bounds
 
 pub overflow_sub-number : goal.overflow_sub-number
 overflow_sub-number c =
-    let turn : Turn c.args.out.now c.args.start c.args.numbers.now c.args.lengths.now c.args.values.now c.loop-i.out c.loop-i.to c.loop-i.before c.loop-i.at c.loop-i.i c.usize_of_u32-number.result c.usize_of_u32.result =
-    record {
-      ahead = c.loop-i.invariant;
-      there = c.loop-i-test.true;
-      numbered = c.usize_of_u32-number.ensures.0;
-      sized = c.usize_of_u32.ensures.0;
-    } in
-    let f = turn-fits turn in omega arith
-
-pub slice_bounds-option-count : goal.slice_bounds-option-count
-slice_bounds-option-count c =
-    let turn : Turn c.args.out.now c.args.start c.args.numbers.now c.args.lengths.now c.args.values.now c.loop-i.out c.loop-i.to c.loop-i.before c.loop-i.at c.loop-i.i c.usize_of_u32-number.result c.usize_of_u32.result =
-    record {
-      ahead = c.loop-i.invariant;
-      there = c.loop-i-test.true;
-      numbered = c.usize_of_u32-number.ensures.0;
-      sized = c.usize_of_u32.ensures.0;
-    } in
-    let f = turn-fits turn in omega arith
-
-pub slice_bounds-option-start : goal.slice_bounds-option-start
-slice_bounds-option-start c =
-    let turn : Turn c.args.out.now c.args.start c.args.numbers.now c.args.lengths.now c.args.values.now c.loop-i.out c.loop-i.to c.loop-i.before c.loop-i.at c.loop-i.i c.usize_of_u32-number.result c.usize_of_u32.result =
-    record {
-      ahead = c.loop-i.invariant;
-      there = c.loop-i-test.true;
-      numbered = c.usize_of_u32-number.ensures.0;
-      sized = c.usize_of_u32.ensures.0;
-    } in
-    let f = turn-fits turn in omega arith
+    let t = turn c.loop-number.yielded c.into_iter-number-iterator.result c.loop-number.number-iterator c.next.new.self c.next.result (cc) (cc)
+    c.loop-number.yielded_by (c.in-Some.number, c.in-Some.len) c.in-Some.is c.next.ensures.steps c.loop-number.invariant in
+    omega (arith, turn-fits t)
 
 pub slice_bounds-option-end : goal.slice_bounds-option-end
 slice_bounds-option-end c =
-    let turn : Turn c.args.out.now c.args.start c.args.numbers.now c.args.lengths.now c.args.values.now c.loop-i.out c.loop-i.to c.loop-i.before c.loop-i.at c.loop-i.i c.usize_of_u32-number.result c.usize_of_u32.result =
-    record {
-      ahead = c.loop-i.invariant;
-      there = c.loop-i-test.true;
-      numbered = c.usize_of_u32-number.ensures.0;
-      sized = c.usize_of_u32.ensures.0;
-    } in
-    let f = turn-fits turn in omega arith
+    let t = turn c.loop-number.yielded c.into_iter-number-iterator.result c.loop-number.number-iterator c.next.new.self c.next.result (cc) (cc)
+    c.loop-number.yielded_by (c.in-Some.number, c.in-Some.len) c.in-Some.is c.next.ensures.steps c.loop-number.invariant in
+    omega (arith, turn-fits t)
 
-pub option-to-requires : goal.option-to-requires
-option-to-requires c =
-    let turn : Turn c.args.out.now c.args.start c.args.numbers.now c.args.lengths.now c.args.values.now c.loop-i.out c.loop-i.to c.loop-i.before c.loop-i.at c.loop-i.i c.usize_of_u32-number.result c.usize_of_u32.result =
-    record {
-      ahead = c.loop-i.invariant;
-      there = c.loop-i-test.true;
-      numbered = c.usize_of_u32-number.ensures.0;
-      sized = c.usize_of_u32.ensures.0;
-    } in
-    let t = turn in
+pub option-to-requires-clause-delta_bound : goal.option-to-requires-clause-delta_bound
+option-to-requires-clause-delta_bound c =
+    let t = turn c.loop-number.yielded c.into_iter-number-iterator.result c.loop-number.number-iterator c.next.new.self c.next.result (cc) (cc)
+    c.loop-number.yielded_by (c.in-Some.number, c.in-Some.len) c.in-Some.is c.next.ensures.steps c.loop-number.invariant in
     let f = turn-fits t in
-    let n = value-length t in
-    record { delta_bound = (omega arith, omega arith); value_in_bounds = turn-room t }
+    (omega arith, omega (arith, value-length t))
 
-pub loop-i-preserved : goal.loop-i-preserved
-loop-i-preserved c =
-    let turn : Turn c.args.out.now c.args.start c.args.numbers.now c.args.lengths.now c.args.values.now c.loop-i.out c.loop-i.to c.loop-i.before c.loop-i.at c.loop-i.i c.usize_of_u32-number.result c.usize_of_u32.result =
-    record {
-      ahead = c.loop-i.invariant;
-      there = c.loop-i-test.true;
-      numbered = c.usize_of_u32-number.ensures.0;
-      sized = c.usize_of_u32.ensures.0;
-    } in
-    turned turn c.option-to.ensures
+pub option-to-requires-clause-value_in_bounds : goal.option-to-requires-clause-value_in_bounds
+option-to-requires-clause-value_in_bounds c =
+    let t = turn c.loop-number.yielded c.into_iter-number-iterator.result c.loop-number.number-iterator c.next.new.self c.next.result (cc) (cc)
+    c.loop-number.yielded_by (c.in-Some.number, c.in-Some.len) c.in-Some.is c.next.ensures.steps c.loop-number.invariant in
+    turn-room t
+
+pub loop-number-preserved : goal.loop-number-preserved
+loop-number-preserved c =
+    let t = turn c.loop-number.yielded c.into_iter-number-iterator.result c.loop-number.number-iterator c.next.new.self c.next.result (cc) (cc)
+    c.loop-number.yielded_by (c.in-Some.number, c.in-Some.len) c.in-Some.is c.next.ensures.steps c.loop-number.invariant in
+    rw length-append (turned t c.option-to.ensures)
 
 pub returns : goal.returns
-returns c = ahead-done c.loop-i.invariant c.loop-i-test.false
+returns c =
+    let over = zip_end c.args.numbers.now c.args.lengths.now c.loop-number.yielded c.into_iter-number-iterator.result c.loop-number.number-iterator c.next.new.self c.next.result (cc) (cc)
+    c.loop-number.yielded_by c.in-None.is c.next.ensures.steps in
+    ahead-done c.loop-number.invariant (all-done c.loop-number.invariant over)

@@ -1,25 +1,25 @@
 use native.Mathlib.Omega.{arith}
 use Rattle.script_fields.proofs.Numbers.{number-good, number-bad}
 use Rattle.replay_control.proofs.Controls.{no_number, fresh_start}
-use borrow.Author.Rules.{rules}
+use Rattle.script_cut.specs.Cut.{texts}
 use Rattle.replay_control.proofs.lines.config_of.Goals as goal
 
-pub returns-in_default : goal.returns-in_default
-returns-in_default c = no_number _ _ 2 (omega arith) (omega arith) (rw c.field.ensures at (number-bad _ _ c.number_field.ensures c.in_default.is))
+pub returns-in_err-limit : goal.returns-in_err-limit
+returns-in_err-limit c = rw c.from_residual.ensures (no_number (texts c.args.six) _ 2 (omega arith) (omega arith) (number-bad _ c.in_err-limit.ensures))
 
-pub returns-in_default-number_field : goal.returns-in_default-number_field
-returns-in_default-number_field c = no_number _ _ 3 (omega arith) (omega arith) (rw c.field-2.ensures at (number-bad _ _ c.number_field-2.ensures c.in_default-number_field.is))
+pub returns-in_err-lifetime : goal.returns-in_err-lifetime
+returns-in_err-lifetime c = rw c.from_residual-in_err-lifetime.ensures (no_number (texts c.args.six) _ 3 (omega arith) (omega arith) (number-bad _ c.in_err-lifetime.ensures))
 
-pub returns-in_default-number_field-2 : goal.returns-in_default-number_field-2
-returns-in_default-number_field-2 c = no_number _ _ 4 (omega arith) (omega arith) (rw c.field-3.ensures at (number-bad _ _ c.number_field-3.ensures c.in_default-number_field-2.is))
+pub returns-in_err-upload : goal.returns-in_err-upload
+returns-in_err-upload c = rw c.from_residual-in_err-upload.ensures (no_number (texts c.args.six) _ 4 (omega arith) (omega arith) (number-bad _ c.in_err-upload.ensures))
 
-pub returns-in_default-number_field-3 : goal.returns-in_default-number_field-3
-returns-in_default-number_field-3 c = no_number _ _ 5 (omega arith) (omega arith) (rw c.field-4.ensures at (number-bad _ _ c.number_field-4.ensures c.in_default-number_field-3.is))
+pub returns-in_err-response : goal.returns-in_err-response
+returns-in_err-response c = rw c.from_residual-in_err-response.ensures (no_number (texts c.args.six) _ 5 (omega arith) (omega arith) (number-bad _ c.in_err-response.ensures))
 
 pub returns : goal.returns
 returns c =
-    fresh_start _ _
-    (rw c.field.ensures at (number-good _ _ _ c.number_field.ensures c.in-Value.is))
-    (rw c.field-2.ensures at (number-good _ _ _ c.number_field-2.ensures c.in-Value-number_field.is))
-    (rw c.field-3.ensures at (number-good _ _ _ c.number_field-3.ensures c.in-Value-number_field-2.is))
-    (rw c.field-4.ensures at (number-good _ _ _ c.number_field-4.ensures c.in-Value-number_field-3.is))
+    fresh_start (texts c.args.six) _
+    (number-good _ _ c.in_ok-limit.ensures)
+    (number-good _ _ c.in_ok-lifetime.ensures)
+    (number-good _ _ c.in_ok-upload.ensures)
+    (number-good _ _ c.in_ok-response.ensures)

@@ -1,19 +1,17 @@
-use mathlib.Core.Path.{sym, ◌∙◌}
-use Rattle.script_cut.proofs.Splitting.{six-fields, not-six-fields}
-use Rattle.replay_control.proofs.Controls.{show-line, not-six, a-start}
-use borrow.Author.Rules.{rules}
+use mathlib.Core.Path.{refl, ◌∙◌}
+use Rattle.replay_control.proofs.Controls.{tested, show-line, not-six, no_start_lem, some-start}
 use Rattle.replay_control.proofs.lines.control_of.Goals as goal
 
-pub returns-then-same_bytes : goal.returns-then-same_bytes
-returns-then-same_bytes c = show-line _ (sym c.same_bytes.ensures ∙ c.if-same_bytes.true)
+pub returns-then-eq : goal.returns-then-eq
+returns-then-eq c = show-line _ (tested c.eq.ensures refl c.as_slice.ensures ∙ c.if-eq.true)
 
-pub returns-in_default : goal.returns-in_default
-returns-in_default c = not-six _ (sym c.same_bytes.ensures ∙ c.if-same_bytes.false) (not-six-fields _ 0 c.in_default.is c.split_six.ensures)
+pub returns-in_err-six : goal.returns-in_err-six
+returns-in_err-six c = rw c.from_residual.ensures (not-six _ (tested c.eq.ensures refl c.as_slice.ensures ∙ c.if-eq.false) c.in_err-six.ensures)
 
-pub start_of-requires : goal.start_of-requires
-start_of-requires c = (six-fields _ 0 c.in-Six.is c.split_six.ensures).1
+pub returns-in_err-config : goal.returns-in_err-config
+returns-in_err-config c =
+    rw c.from_residual-in_err-config.ensures
+    (no_start_lem _ (tested c.eq.ensures refl c.as_slice.ensures ∙ c.if-eq.false) c.in_ok-six.ensures refl c.in_err-config.ensures)
 
 pub returns : goal.returns
-returns c =
-    c.start_of.ensures
-    ∙ a-start _ (sym c.same_bytes.ensures ∙ c.if-same_bytes.false) (six-fields _ 0 c.in-Six.is c.split_six.ensures)
+returns c = some-start _ (tested c.eq.ensures refl c.as_slice.ensures ∙ c.if-eq.false) c.in_ok-six.ensures refl _ c.in_ok-config.ensures

@@ -1,30 +1,26 @@
-use mathlib.Core.Path.{sym, ◌∙◌}
-use borrow.Author.Tests.{not-true, not-false}
-use Rattle.replay_control.proofs.Controls.{no_kind, strict-start, plain-start, no_mode}
-use borrow.Author.Rules.{rules}
+use mathlib.Core.Path.{refl, ap, ◌∙◌}
+use mathlib.Core.Bool.{not}
+use Rattle.replay_control.proofs.Controls.{tested, tested-not, no_kind, strict-start, plain-start, no_mode}
 use Rattle.replay_control.proofs.lines.start_of.Goals as goal
 
-pub returns-then-not-same_bytes : goal.returns-then-not-same_bytes
-returns-then-not-same_bytes c = no_kind _ (rw c.field.ensures at (sym c.same_bytes.ensures ∙ c.if-not-same_bytes.true))
+pub returns-then-ne : goal.returns-then-ne
+returns-then-ne c = no_kind _ (tested-not c.ne.ensures refl c.as_slice.ensures ∙ ap not c.if-ne.true)
 
-pub returns-then-same_bytes : goal.returns-then-same_bytes
-returns-then-same_bytes c =
+pub returns-then-eq : goal.returns-then-eq
+returns-then-eq c =
     c.config_of.ensures
-    ∙ strict-start _
-    (rw c.field.ensures at (sym c.same_bytes.ensures ∙ c.if-not-same_bytes.false))
-    (rw c.field-mode.ensures at (sym c.same_bytes-2.ensures ∙ c.if-same_bytes.true))
+    ∙ strict-start _ (tested-not c.ne.ensures refl c.as_slice.ensures ∙ ap not c.if-ne.false)
+    (tested c.eq.ensures refl c.as_slice-2.ensures ∙ c.if-eq.true)
 
-pub returns-then-same_bytes-2 : goal.returns-then-same_bytes-2
-returns-then-same_bytes-2 c =
-    c.config_of-then-same_bytes-2.ensures
-    ∙ plain-start _
-    (rw c.field.ensures at (sym c.same_bytes.ensures ∙ c.if-not-same_bytes.false))
-    (rw c.field-mode.ensures at (sym c.same_bytes-2.ensures ∙ c.if-same_bytes.false))
-    (rw c.field-mode.ensures at (sym c.same_bytes-3.ensures ∙ c.if-same_bytes-2.true))
+pub returns-then-eq-2 : goal.returns-then-eq-2
+returns-then-eq-2 c =
+    c.config_of-then-eq-2.ensures
+    ∙ plain-start _ (tested-not c.ne.ensures refl c.as_slice.ensures ∙ ap not c.if-ne.false)
+    (tested c.eq.ensures refl c.as_slice-2.ensures ∙ c.if-eq.false)
+    (tested c.eq-2.ensures refl c.as_slice-3.ensures ∙ c.if-eq-2.true)
 
 pub returns : goal.returns
 returns c =
-    no_mode _
-    (rw c.field.ensures at (sym c.same_bytes.ensures ∙ c.if-not-same_bytes.false))
-    (rw c.field-mode.ensures at (sym c.same_bytes-2.ensures ∙ c.if-same_bytes.false))
-    (rw c.field-mode.ensures at (sym c.same_bytes-3.ensures ∙ c.if-same_bytes-2.false))
+    no_mode _ (tested-not c.ne.ensures refl c.as_slice.ensures ∙ ap not c.if-ne.false)
+    (tested c.eq.ensures refl c.as_slice-2.ensures ∙ c.if-eq.false)
+    (tested c.eq-2.ensures refl c.as_slice-3.ensures ∙ c.if-eq-2.false)

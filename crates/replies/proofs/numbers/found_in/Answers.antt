@@ -1,5 +1,5 @@
 use Prim.Native.Nat.{ℕ}
-use mathlib.Core.Path.{◌≡◌, sym, ap, ◌∙◌}
+use mathlib.Core.Path.{◌≡◌}
 use mathlib.Core.Bool.{Bool, cond, ◌&&◌}
 use lib.Dec.{leb}
 use Rattle.block_state.specs.declared.Part.{Part}
@@ -7,7 +7,6 @@ use Rattle.answer_sources.specs.declared.Source.{Source}
 use Rattle.answer_sources.specs.declared.Source.TheVariants.{Within}
 use Rattle.replies.specs.declared.Found.{Found}
 use Rattle.replies.specs.Found.{found, found_in}
-use borrow.Author.Rules.{rules}
 use Rattle.replies.proofs.numbers.found_in.Goals as goal
 
 -- what was found is what is found in the source, once it is known which

@@ -1,42 +1,27 @@
-use mathlib.Core.Path.{ap}
 use native.Mathlib.Omega.{arith}
-use lib.ListN.{length}
-use Rattle.script.proofs.Lines.{no-time, no_bare, no_key_lem, no_payload, call-bad, call-good, call-is}
+use Rattle.script.proofs.Lines.{no-time, no_bare, no_key_lem, no_payload, call-is}
 use Rattle.script_fields.proofs.Numbers.{number-good, number-bad}
-use Rattle.script_cut.proofs.Splitting.{fields_fit}
+use Rattle.script_cut.specs.Cut.{texts}
 use Rattle.script.proofs.read.call_of.Goals as goal
 
-pub returns-in_default : goal.returns-in_default
-returns-in_default c = call-bad _ (no-time _ (rw c.field.ensures at (number-bad _ _ c.number_field.ensures c.in_default.is)))
+pub returns-in_err-time : goal.returns-in_err-time
+returns-in_err-time c = rw c.from_residual.ensures (no-time (texts c.args.six) (number-bad _ c.in_err-time.ensures))
 
-pub returns-in_default-number_field : goal.returns-in_default-number_field
-returns-in_default-number_field c = call-bad _ (no_bare _ (rw c.field-2.ensures at (number-bad _ _ c.number_field-2.ensures c.in_default-number_field.is)))
+pub returns-in_err-bare : goal.returns-in_err-bare
+returns-in_err-bare c = rw c.from_residual-in_err-bare.ensures (no_bare (texts c.args.six) (number-bad _ c.in_err-bare.ensures))
 
 pub bytes_field-requires : goal.bytes_field-requires
-bytes_field-requires c = omega (arith, ap length c.field-3.ensures, fields_fit _ _ c.requires.fields, c.requires.line_len_bound)
+bytes_field-requires c = omega (arith, c.requires)
 
-pub returns-in_default-bytes_field : goal.returns-in_default-bytes_field
-returns-in_default-bytes_field c = call-bad _ (no_key_lem _ (rw c.field-3.ensures at (c.bytes_field.ensures.bad c.in_default-bytes_field.is)))
+pub returns-in_err-key : goal.returns-in_err-key
+returns-in_err-key c = rw c.from_residual-in_err-key.ensures (no_key_lem (texts c.args.six) c.in_err-key.ensures)
 
 pub bytes_field-requires-2 : goal.bytes_field-requires-2
-bytes_field-requires-2 c =
-    omega (
-      arith,
-      ap length c.field-4.ensures,
-      ap length c.field-3.ensures,
-      (c.bytes_field.ensures.read _ c.in-Bytes.is).1.half,
-      fields_fit _ _ c.requires.fields,
-      c.requires.line_len_bound,
-    )
+bytes_field-requires-2 c = omega (arith, c.in_ok-key.ensures.1.half, c.requires)
 
-pub returns-in_default-bytes_field-2 : goal.returns-in_default-bytes_field-2
-returns-in_default-bytes_field-2 c = call-bad _ (no_payload _ (rw c.field-4.ensures at (c.bytes_field-2.ensures.bad c.in_default-bytes_field-2.is)))
+pub returns-in_err-payload : goal.returns-in_err-payload
+returns-in_err-payload c = rw c.from_residual-in_err-payload.ensures (no_payload (texts c.args.six) c.in_err-payload.ensures)
 
 pub returns : goal.returns
 returns c =
-    call-good _
-    (call-is _ _
-    (rw c.field.ensures at (number-good _ _ _ c.number_field.ensures c.in-Value.is))
-    (rw c.field-2.ensures at (number-good _ _ _ c.number_field-2.ensures c.in-Value-number_field.is))
-    (rw c.field-3.ensures at (c.bytes_field.ensures.read _ c.in-Bytes.is))
-    (rw c.field-4.ensures at (c.bytes_field-2.ensures.read _ c.in-Bytes-bytes_field.is)))
+    call-is (texts c.args.six) _ (number-good _ _ c.in_ok-time.ensures) (number-good _ _ c.in_ok-bare.ensures) c.in_ok-key.ensures c.in_ok-payload.ensures

@@ -1,38 +1,32 @@
-use mathlib.Core.Path.{◌∙◌}
+use mathlib.Core.Path.{refl, ◌∙◌}
+use native.Mathlib.Omega.{arith}
 use Rattle.script.proofs.Lines.{short-line, no-space, not-six, other-line, request-line, response-line}
-use Rattle.script_cut.proofs.Splitting.{six-fields, not-six-fields}
+use Rattle.script_cut.specs.Cut.{texts}
+use Rattle.script_cut.proofs.Splitting.{fields_fit}
 use Rattle.script.proofs.read.read_line.Goals as goal
 
-pub returns-then-line-lt2 : goal.returns-then-line-lt2
-returns-then-line-lt2 c = record { scratch_after = short-line _ c.if-line-lt2.true; in_buffer = tt }
+pub returns-in_default-clause-scratch_after : goal.returns-in_default-clause-scratch_after
+returns-in_default-clause-scratch_after c = short-line _ (omega arith)
 
-pub returns-then-line-ne32 : goal.returns-then-line-ne32
-returns-then-line-ne32 c = record { scratch_after = no-space _ c.if-line-lt2.false c.if-line-ne32.true; in_buffer = tt }
+pub returns-in_default-2-clause-scratch_after : goal.returns-in_default-2-clause-scratch_after
+returns-in_default-2-clause-scratch_after c = no-space _ (omega arith) (λ e. omega (arith, e))
 
-pub returns-in_default : goal.returns-in_default
-returns-in_default c = record { scratch_after = not-six _ c.if-line-lt2.false c.if-line-ne32.false (not-six-fields _ 2 c.in_default.is c.split_six.ensures); in_buffer = tt }
+pub returns-in_err-six-clause-scratch_after : goal.returns-in_err-six-clause-scratch_after
+returns-in_err-six-clause-scratch_after c = rw c.from_residual.ensures (not-six _ (omega arith) (omega arith) c.in_err-six.ensures)
 
 pub request_of-requires : goal.request_of-requires
-request_of-requires c = record { fields = (six-fields _ 2 c.in-Six.is c.split_six.ensures).1; line_len_bound = c.requires }
-
-pub returns-then-line-eq81 : goal.returns-then-line-eq81
-returns-then-line-eq81 c =
-    record {
-      scratch_after = c.request_of.ensures.scratch_after ∙ request-line _ c.if-line-lt2.false c.if-line-ne32.false
-          (six-fields _ 2 c.in-Six.is c.split_six.ensures) c.if-line-eq81.true;
-      in_buffer = c.request_of.ensures.in_buffer;
-    }
+request_of-requires c = omega (arith, fields_fit c.args.line.now 2 (texts c.in_ok-six.six) c.in_ok-six.ensures, c.requires)
 
 pub response_of-requires : goal.response_of-requires
-response_of-requires c = record { fields = (six-fields _ 2 c.in-Six.is c.split_six.ensures).1; line_len_bound = c.requires }
+response_of-requires c = omega (arith, fields_fit c.args.line.now 2 (texts c.in_ok-six.six) c.in_ok-six.ensures, c.requires)
 
-pub returns-then-line-eq80 : goal.returns-then-line-eq80
-returns-then-line-eq80 c =
-    record {
-      scratch_after = c.response_of.ensures.scratch_after ∙ response-line _ c.if-line-lt2.false c.if-line-ne32.false
-          (six-fields _ 2 c.in-Six.is c.split_six.ensures) c.if-line-eq80.true;
-      in_buffer = c.response_of.ensures.in_buffer;
-    }
+pub returns-in-81-clause-scratch_after : goal.returns-in-81-clause-scratch_after
+returns-in-81-clause-scratch_after c =
+    c.request_of.ensures.scratch_after ∙ request-line _ (omega arith) (omega arith) c.in_ok-six.ensures refl (omega arith)
 
-pub returns : goal.returns
-returns c = record { scratch_after = other-line _ c.if-line-lt2.false c.if-line-ne32.false c.if-line-eq81.false c.if-line-eq80.false; in_buffer = tt }
+pub returns-in-80-clause-scratch_after : goal.returns-in-80-clause-scratch_after
+returns-in-80-clause-scratch_after c =
+    c.response_of.ensures.scratch_after ∙ response-line _ (omega arith) (omega arith) c.in_ok-six.ensures refl (omega arith)
+
+pub returns-in_default-kind-clause-scratch_after : goal.returns-in_default-kind-clause-scratch_after
+returns-in_default-kind-clause-scratch_after c = other-line _ (omega arith) (omega arith) (λ e. omega (arith, e)) (λ e. omega (arith, e))

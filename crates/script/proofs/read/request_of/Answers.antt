@@ -1,51 +1,24 @@
-use mathlib.Core.Path.{ap, ◌∙◌}
 use native.Mathlib.Omega.{arith}
-use lib.ListN.{length}
 use Rattle.script.proofs.Lines.{no-request, no-block1, no-block2, request-read}
-use Rattle.script_cut.proofs.Splitting.{fields_fit}
-use Rattle.script_fields.specs.Fields.{is_given}
+use Rattle.script_cut.specs.Cut.{texts}
 use Rattle.script.proofs.read.request_of.Goals as goal
 
-pub returns-in_default : goal.returns-in_default
-returns-in_default c = record { scratch_after = no-request _ (c.call_of.ensures.bad c.in_default.is); in_buffer = tt }
+pub returns-in_err-call-clause-scratch_after : goal.returns-in_err-call-clause-scratch_after
+returns-in_err-call-clause-scratch_after c = rw c.from_residual.ensures (no-request _ c.in_err-call.ensures)
 
 pub option_field-requires : goal.option_field-requires
-option_field-requires c =
-    omega (
-      arith,
-      ap length c.field-text1.ensures,
-      (c.call_of.ensures.call _ c.in-Call.is).half,
-      fields_fit _ _ c.requires.fields,
-      c.requires.line_len_bound,
-    )
+option_field-requires c = omega (arith, c.in_ok-call.ensures.half, c.requires)
 
-pub returns-in_default-option_field : goal.returns-in_default-option_field
-returns-in_default-option_field c = record { scratch_after = no-block1 _ (rw c.field-text1.ensures at (c.option_field.ensures.bad c.in_default-option_field.is)); in_buffer = tt }
+pub returns-in_err-block1-clause-scratch_after : goal.returns-in_err-block1-clause-scratch_after
+returns-in_err-block1-clause-scratch_after c = rw c.from_residual-in_err-block1.ensures (no-block1 (texts c.args.six) c.in_err-block1.ensures)
 
 pub option_field-requires-2 : goal.option_field-requires-2
-option_field-requires-2 c =
-    omega (
-      arith,
-      ap length c.field-text2.ensures,
-      ap length c.field-text1.ensures,
-      (c.option_field.ensures.read _ c.in-Bytes.is).1.half,
-      (c.call_of.ensures.call _ c.in-Call.is).half,
-      fields_fit _ _ c.requires.fields,
-      c.requires.line_len_bound,
-    )
+option_field-requires-2 c = omega (arith, c.in_ok-block1.ensures.1.half, c.in_ok-call.ensures.half, c.requires)
 
-pub returns-in_default-option_field-2 : goal.returns-in_default-option_field-2
-returns-in_default-option_field-2 c = record { scratch_after = no-block2 _ (rw c.field-text2.ensures at (c.option_field-2.ensures.bad c.in_default-option_field-2.is)); in_buffer = tt }
+pub returns-in_err-block2-clause-scratch_after : goal.returns-in_err-block2-clause-scratch_after
+returns-in_err-block2-clause-scratch_after c = rw c.from_residual-in_err-block2.ensures (no-block2 (texts c.args.six) c.in_err-block2.ensures)
 
 pub returns : goal.returns
 returns c =
-    let text1 = c.field-text1.ensures in
-    let text2 = c.field-text2.ensures in
-    record {
-      scratch_after = (request-read _ (c.call_of.ensures.call _ c.in-Call.is) (c.is_given.ensures ∙ ap is_given text1) (c.is_given-2.ensures ∙ ap is_given text2)
-          (rw text1 at (c.option_field.ensures.read _ c.in-Bytes.is))
-          (rw text2 at (c.option_field-2.ensures.read _ c.in-Bytes-option_field.is))).0;
-      in_buffer = (request-read _ (c.call_of.ensures.call _ c.in-Call.is) (c.is_given.ensures ∙ ap is_given text1) (c.is_given-2.ensures ∙ ap is_given text2)
-          (rw text1 at (c.option_field.ensures.read _ c.in-Bytes.is))
-          (rw text2 at (c.option_field-2.ensures.read _ c.in-Bytes-option_field.is))).1;
-    }
+    let both = request-read (texts c.args.six) c.in_ok-call.ensures c.is_given.ensures c.is_given-2.ensures c.in_ok-block1.ensures c.in_ok-block2.ensures in
+    record { scratch_after = both.0; in_buffer = both.1 }

@@ -1,35 +1,25 @@
-use mathlib.Core.Path.{ap}
 use native.Mathlib.Omega.{arith}
-use lib.ListN.{length}
 use Rattle.script.proofs.Lines.{no-response, no_own, large-own, no-head, response-read}
 use Rattle.script_fields.proofs.Numbers.{number-good, number-bad}
-use Rattle.script_cut.proofs.Splitting.{fields_fit}
+use Rattle.script_cut.specs.Cut.{texts}
 use Rattle.script.proofs.read.response_of.Goals as goal
 
-pub returns-in_default : goal.returns-in_default
-returns-in_default c = record { scratch_after = no-response _ (c.call_of.ensures.bad c.in_default.is); in_buffer = tt }
+pub returns-in_err-call-clause-scratch_after : goal.returns-in_err-call-clause-scratch_after
+returns-in_err-call-clause-scratch_after c = rw c.from_residual.ensures (no-response _ c.in_err-call.ensures)
 
-pub returns-in_default-number_field : goal.returns-in_default-number_field
-returns-in_default-number_field c = record { scratch_after = no_own _ (rw c.field.ensures at (number-bad _ _ c.number_field.ensures c.in_default-number_field.is)); in_buffer = tt }
+pub returns-in_err-own-clause-scratch_after : goal.returns-in_err-own-clause-scratch_after
+returns-in_err-own-clause-scratch_after c = rw c.from_residual-in_err-own.ensures (no_own (texts c.args.six) (number-bad _ c.in_err-own.ensures))
 
-pub returns-then-own-gt1 : goal.returns-then-own-gt1
-returns-then-own-gt1 c =
-    let own = rw c.field.ensures at (number-good _ _ _ c.number_field.ensures c.in-Value.is) in
-    record { scratch_after = large-own _ _ own.1 c.if-own-gt1.true; in_buffer = tt }
+pub returns-then-own-gt1-clause-scratch_after : goal.returns-then-own-gt1-clause-scratch_after
+returns-then-own-gt1-clause-scratch_after c = let own = number-good _ _ c.in_ok-own.ensures in large-own (texts c.args.six) _ own.1 c.if-own-gt1.true
 
 pub bytes_field-requires : goal.bytes_field-requires
-bytes_field-requires c = omega (arith, ap length c.field-2.ensures, (c.call_of.ensures.call _ c.in-Call.is).half, fields_fit _ _ c.requires.fields, c.requires.line_len_bound)
+bytes_field-requires c = omega (arith, c.in_ok-call.ensures.half, c.requires)
 
-pub returns-in_default-bytes_field : goal.returns-in_default-bytes_field
-returns-in_default-bytes_field c = record { scratch_after = no-head _ (rw c.field-2.ensures at (c.bytes_field.ensures.bad c.in_default-bytes_field.is)); in_buffer = tt }
+pub returns-in_err-head-clause-scratch_after : goal.returns-in_err-head-clause-scratch_after
+returns-in_err-head-clause-scratch_after c = rw c.from_residual-in_err-head.ensures (no-head (texts c.args.six) c.in_err-head.ensures)
 
 pub returns : goal.returns
 returns c =
-    record {
-      scratch_after = (response-read _ (c.call_of.ensures.call _ c.in-Call.is)
-          (rw c.field.ensures at (number-good _ _ _ c.number_field.ensures c.in-Value.is)) c.if-own-gt1.false
-          (rw c.field-2.ensures at (c.bytes_field.ensures.read _ c.in-Bytes.is))).0;
-      in_buffer = (response-read _ (c.call_of.ensures.call _ c.in-Call.is)
-          (rw c.field.ensures at (number-good _ _ _ c.number_field.ensures c.in-Value.is)) c.if-own-gt1.false
-          (rw c.field-2.ensures at (c.bytes_field.ensures.read _ c.in-Bytes.is))).1;
-    }
+    let both = response-read (texts c.args.six) c.in_ok-call.ensures (number-good _ _ c.in_ok-own.ensures) c.if-own-gt1.false c.in_ok-head.ensures in
+    record { scratch_after = both.0; in_buffer = both.1 }

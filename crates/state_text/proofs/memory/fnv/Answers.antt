@@ -1,17 +1,14 @@
-use Rattle.std.proofs.Common.{◌≡◌, ◌-◌, ◌≤◌, length, drop, refl, rules}
-use Rattle.state_text.specs.Memory.{fnv_from, fnv_of}
+use Rattle.std.proofs.Common.{refl, arith}
+use Rattle.state_text.specs.Memory.{fnv_of}
 use Rattle.state_text.proofs.Numbering.{fnv-turn, fnv-end}
 use Rattle.state_text.proofs.memory.fnv.Goals as goal
 
-pub loop-i-init : goal.loop-i-init
+pub loop-b-init : goal.loop-b-init
 unfolding fnv_of
-loop-i-init c = (search rules, refl)
+loop-b-init c = refl
 
-pub loop-i-preserved : goal.loop-i-preserved
-loop-i-preserved c = (
-  search rules,
-  fnv-turn c.args.bytes.now c.loop-i.i c.loop-i.h c.loop-i.invariant.1 _ _ (search rules) c.u64_of_u8.ensures.0 c.times_prime-h.ensures,
-)
+pub loop-b-preserved : goal.loop-b-preserved
+loop-b-preserved c = fnv-turn _ _ _ c.loop-b.invariant _ _ (omega arith) c.from.ensures refl
 
 pub returns : goal.returns
-returns c = fnv-end c.args.bytes.now c.loop-i.i c.loop-i.h c.loop-i.invariant.1 (search rules)
+returns c = fnv-end c.args.bytes.now _ _ c.loop-b.invariant (omega arith)

@@ -1,7 +1,6 @@
 use Rattle.state_text.specs.Memory.{word_text}
-use Rattle.std.proofs.Common.{rules}
 use Rattle.state_text.proofs.memory.put_word.Goals as goal
 
-pub returns : goal.returns
+pub returns-clause-put : goal.returns-clause-put
 unfolding word_text
-returns c = record { put = c.put_hex.ensures.put; value = search rules }
+returns-clause-put c = rw c.to_be_bytes-bytes.ensures at c.put_hex.ensures.put
