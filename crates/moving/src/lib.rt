@@ -11,7 +11,10 @@ pub fn shift(mem: &mut [u8], from: usize, to: usize, n: usize)
     requires n_in_bounds_2 { to + n ≤ length mem.old }
     ensures { mem.new ≡ patch mem.old to (part mem.old from n) }
 {
-    mem.copy_within(from..from + n, to);
+    // Bytes that stay where they are cost nothing.
+    if from != to {
+        mem.copy_within(from..from + n, to);
+    }
 }
 
 // Moves the n bytes at from down to index to.

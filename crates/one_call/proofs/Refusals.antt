@@ -47,6 +47,9 @@ same_number m n e = ap refusal_number (same_reason m n e)
 
 -- ---- the numbers
 
+not-eight : (n : Refusal) → n ≡ PastTheEnd → (refusal_number n ≡ 8 → ⊥) → ⊥
+not-eight n e no8 = no8 (ap refusal_number e)
+
 chunk-past : (b : BlockValue) (m : ℕ) (n : Refusal) → chunk_of b m ≡ Err n → n ≡ PastTheEnd
 unfolding chunk_of
 chunk-past b m n =
@@ -66,21 +69,25 @@ module _ (c : Config) (home away : ℕ) (s : BlockState) (u : List ℕ) (r : Req
   of-refusal P why over g (onwards t v _ _ _ (took b reply m k) l h) e = never (cc)
   of-refusal P why over g (serves t v _ _ _ x y from to k l held asks is h) e = never (cc)
 
--- a step that leaves everything is refused with 4 to 10
-why-number : (c : Config) (home away : ℕ) (s : BlockState) (u : List ℕ) (r : Request) (n : Refusal) → Why c home away s u r n → (4 ≤ refusal_number n) × (refusal_number n ≤ 10)
+-- a step that leaves everything is refused with 4 to 10, and not with 8
+why-number : (c : Config) (home away : ℕ) (s : BlockState) (u : List ℕ) (r : Request) (n : Refusal) → Why c home away s u r n
+    → (4 ≤ refusal_number n) × (refusal_number n ≤ 10) × (n ≡ PastTheEnd → ⊥)
 why-number c home away s u r n (unagreed m e) =
-    ⊎_elim (λ (z : refusal_number m ≡ 4). (omega arith, omega arith)) (λ (z : refusal_number m ≡ 5). (omega arith, omega arith)) (refusal-number c _ _ _ m e)
-why-number c home away s u r n (badly b reply given e y) = (omega arith, omega arith)
-why-number c home away s u r n (astray b reply given e f y) = (omega arith, omega arith)
+    ⊎_elim (λ (z : refusal_number m ≡ 4). (omega arith, omega arith, λ y. not-eight m y (omega arith)))
+    (λ (z : refusal_number m ≡ 5). (omega arith, omega arith, λ y. not-eight m y (omega arith))) (refusal-number c _ _ _ m e)
+why-number c home away s u r n (badly b reply given e y) = (omega arith, omega arith, λ z. not-eight n z (omega arith))
+why-number c home away s u r n (astray b reply given e f y) = (omega arith, omega arith, λ z. not-eight n z (omega arith))
 why-number c home away s u r n (unspliced m e) =
-    ⊎_elim (λ (z : m ≡ Jump). rw z (omega arith, omega arith)) (λ (z : m ≡ NoRoom). rw z (omega arith, omega arith)) e
+    ⊎_elim (λ (z : m ≡ Jump). rw z (omega arith, omega arith, λ y. not-eight Jump y (omega arith)))
+    (λ (z : m ≡ NoRoom). rw z (omega arith, omega arith, λ y. not-eight NoRoom y (omega arith))) e
 
 abbrev Late : Refusal → Left → Type 0
 Late n g = g.answer ≡ Refused n → (4 ≤ refusal_number n) × (refusal_number n ≤ 10)
 
 request-number : (c : Config) (home away : ℕ) (s : BlockState) (u : List ℕ) (r : Request) (g : Left) → Outcome c home away s u r g → (n : Refusal) → Late n g
 request-number c home away s u r g o n =
-    of-refusal c home away s u r n (λ g. (4 ≤ refusal_number n) × (refusal_number n ≤ 10)) (λ m z why. rw z at (why-number c home away s u r m why))
+    of-refusal c home away s u r n (λ g. (4 ≤ refusal_number n) × (refusal_number n ≤ 10))
+    (λ m z why. let k = rw z at (why-number c home away s u r m why) in (k.0, k.1))
     (λ m z y t v k. rw y (omega arith, omega arith)) g o
 
 unstored-number : (c : Config) (s : BlockState) (d : List ℕ) (r : Response) (a : Answer) → Unstored c s d r a → (n : Refusal) → a ≡ Refused n → (4 ≤ refusal_number n) × (refusal_number n ≤ 10)

@@ -4,13 +4,14 @@
 ghost use Rattle.std.specs.Prelude.{◌∷◌, [], ◌≡◌, ◌+◌, ◌<◌, ◌≤◌, length, replicate};
 ghost use Rattle.pieces.specs.Memory.{patch, within, Put};
 
-// Copies src into mem from index at on.
-#[tactic(auto, using(crate::proofs::Memory::patch_back))]
+// Copies src into mem from index at on. By a loop, since std's `copy_from_slice` comes to a memmove, which a caller in C would have to bring.
 pub fn copy_in(mem: &mut [u8], at: usize, src: &[u8])
     requires { at + length src.now ≤ length mem.old }
     ensures { mem.new ≡ patch mem.old at src.now }
 {
-    mem[at..at + src.len()].copy_from_slice(src);
+    for (i, byte) in src.iter().enumerate() {
+        mem[at + i] = *byte;
+    }
 }
 
 // Writes bytes at an index, and answers the next index.

@@ -18,10 +18,7 @@ fn make_room(piece: &mut [u8], len: usize, at: usize, end: usize, to: usize)
     ensures { piece.new ≡ room_in piece.old len at end to }
 {
     if end < len {
-        // Nothing is moved where the payload is as long as what it replaces.
-        if end != to {
-            moving::shift(piece, end, to, len - end);
-        }
+        moving::shift(piece, end, to, len - end);
         return;
     }
     if len < at {
